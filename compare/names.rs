@@ -1,0 +1,225 @@
+//! Holds the library's answers about names against the crate's own.
+//!
+//! Every name of up to 6 bytes over the letters of `xmlns` and the colon, then drawn longer ones
+//! with other letters, characters of two bytes and bytes that are no UTF-8. The crate takes text
+//! alone: about a name that is none it is asked with `z` in place of each byte past ASCII, which
+//! keeps every position and is neither a colon nor a letter of `xmlns`.
+//!
+//! The verdict on a declaration has no counterpart in the crate. It is held against `verdict` below,
+//! a transcription of document 01's sentence.
+//!
+//! Status 0 and counts where all agrees, status 1 and the first difference where it doesn't.
+
+#[allow(dead_code)]
+#[path = "../oracle/src/cases.rs"]
+mod cases;
+
+use cases::Lcg;
+use oracle::PrefixDeclaration;
+use oracle::scopes;
+use oracle::text::shown;
+use std::process::ExitCode;
+
+const LETTERS: &[u8] = b"xmlns:";
+const EVERY_UP_TO: u32 = 6;
+const DRAWN: usize = 200_000;
+const SEED: u64 = 42_003;
+
+const XML_URI: &[u8] = b"http://www.w3.org/XML/1998/namespace";
+const XMLNS_URI: &[u8] = b"http://www.w3.org/2000/xmlns/";
+
+// `mz_split`: the index of the first colon, or the length where there is none. `mz_declares`: 0 no
+// declaration, 1 the default, 2 the prefix behind `xmlns:`. The others answer 0 or 1. `mz_verdict` is
+// asked about declarations alone.
+unsafe extern "C" {
+    fn mz_split(name: *const u8, len: usize) -> usize;
+    fn mz_declares(name: *const u8, len: usize) -> usize;
+    fn mz_is_xml(prefix: *const u8, len: usize) -> u8;
+    fn mz_is_xmlns(prefix: *const u8, len: usize) -> u8;
+    fn mz_verdict(name: *const u8, name_len: usize, value: *const u8, value_len: usize) -> u8;
+}
+
+fn our_split(name: &[u8]) -> usize {
+    // SAFETY: the pointer and the length are those of one slice, which the call only reads.
+    unsafe { mz_split(name.as_ptr(), name.len()) }
+}
+
+fn our_declares(name: &[u8]) -> usize {
+    // SAFETY: as for `mz_split`.
+    unsafe { mz_declares(name.as_ptr(), name.len()) }
+}
+
+fn our_is_xml(prefix: &[u8]) -> u8 {
+    // SAFETY: as for `mz_split`.
+    unsafe { mz_is_xml(prefix.as_ptr(), prefix.len()) }
+}
+
+fn our_is_xmlns(prefix: &[u8]) -> u8 {
+    // SAFETY: as for `mz_split`.
+    unsafe { mz_is_xmlns(prefix.as_ptr(), prefix.len()) }
+}
+
+fn our_verdict(name: &[u8], value: &[u8]) -> u8 {
+    // SAFETY: as for `mz_split`, for two slices.
+    unsafe { mz_verdict(name.as_ptr(), name.len(), value.as_ptr(), value.len()) }
+}
+
+// Document 01, "Verdict on a declaration": no for the prefix `xmlns`; for `xml` to another URI; for
+// another prefix to the xml or xmlns URI; for a named prefix with an empty value; for an empty prefix
+// or one with a colon. Else yes. `None` is the default declaration.
+fn verdict(prefix: Option<&[u8]>, value: &[u8]) -> bool {
+    let Some(prefix) = prefix else { return true };
+    let reserved = value == XML_URI || value == XMLNS_URI;
+    let no = prefix == b"xmlns"
+        || (prefix == b"xml" && value != XML_URI)
+        || (prefix != b"xml" && reserved)
+        || value.is_empty()
+        || prefix.is_empty()
+        || prefix.contains(&b':');
+    !no
+}
+
+#[derive(Default)]
+struct Tally {
+    names: usize,
+    declarations: usize,
+    answers: usize,
+}
+
+impl Tally {
+    fn hold<T: PartialEq + std::fmt::Debug>(
+        &mut self,
+        about: &str,
+        name: &[u8],
+        ours: T,
+        wanted: T,
+    ) -> Result<(), String> {
+        self.answers += 1;
+        if ours == wanted {
+            return Ok(());
+        }
+        Err(format!(
+            "{about} of |{}| {name:?}: the library says {ours:?}, wanted is {wanted:?}",
+            shown(name)
+        ))
+    }
+}
+
+fn compare(name: &[u8], tally: &mut Tally) -> Result<(), String> {
+    let plain = |&b: &u8| if b.is_ascii() { char::from(b) } else { 'z' };
+    let asked = match std::str::from_utf8(name) {
+        Ok(text) => text.to_string(),
+        Err(_) => name.iter().map(plain).collect(),
+    };
+    tally.names += 1;
+    let (prefix, _) = scopes::split(&asked);
+    let colon = prefix.map_or(name.len(), str::len);
+    tally.hold("split", name, our_split(name), colon)?;
+
+    for part in [&name[..colon], name] {
+        let text = &asked[..part.len()];
+        let (xml, xmlns) = (scopes::is_xml(text), scopes::is_xmlns(text));
+        tally.hold("is_xml", part, our_is_xml(part), u8::from(xml))?;
+        tally.hold("is_xmlns", part, our_is_xmlns(part), u8::from(xmlns))?;
+    }
+
+    let (kind, declared) = match scopes::declares(&asked) {
+        None => return tally.hold("declares", name, our_declares(name), 0),
+        Some(PrefixDeclaration::Default) => (1, None),
+        Some(PrefixDeclaration::Named(named)) => (2, Some(&name[name.len() - named.len()..])),
+    };
+    tally.declarations += 1;
+    tally.hold("declares", name, our_declares(name), kind)?;
+    compare_verdicts(name, declared, tally)
+}
+
+// The verdict on a declaration of each telling value: the reserved URIs, and what is nearly one.
+fn compare_verdicts(name: &[u8], declared: Option<&[u8]>, tally: &mut Tally) -> Result<(), String> {
+    let values: [&[u8]; 10] = [
+        b"",
+        b"u",
+        b"xml",
+        b"xmlns",
+        XML_URI,
+        XMLNS_URI,
+        &XML_URI[1..],
+        &XMLNS_URI[..28],
+        b"http://www.w3.org/XML/1998/namespacf",
+        b"http://www.w3.org/2000/xmlns//",
+    ];
+    for value in values {
+        let wanted = u8::from(verdict(declared, value));
+        let about = format!("verdict on the value |{}|", shown(value));
+        tally.hold(&about, name, our_verdict(name, value), wanted)?;
+    }
+    Ok(())
+}
+
+// Up to 40 bytes, many of them with a head that makes or nearly makes a declaration.
+fn drawn(lcg: &mut Lcg) -> Vec<u8> {
+    let heads: [&[u8]; 8] = [
+        b"",
+        b"",
+        b"xmlns",
+        b"xmlns:",
+        b"xmlns:xml",
+        b"xmlns:xmlns",
+        b"xml:",
+        b"xmln",
+    ];
+    let parts: [&[u8]; 9] = [
+        b"x",
+        b"m",
+        b"l",
+        b"n",
+        b"s",
+        b":",
+        b"a",
+        "\u{e9}".as_bytes(),
+        b"\xff",
+    ];
+    let mut name = lcg.pick(&heads).to_vec();
+    let len = lcg.below(41);
+    while name.len() < len {
+        name.extend_from_slice(lcg.pick(&parts));
+    }
+    name.truncate(40);
+    name
+}
+
+fn all(tally: &mut Tally) -> Result<(), String> {
+    for len in 0..=EVERY_UP_TO {
+        for name in cases::every(LETTERS, len) {
+            compare(&name, tally)?;
+        }
+    }
+    eprintln!(
+        "names: every one up to {EVERY_UP_TO} bytes agrees, {} of them",
+        tally.names
+    );
+    let mut lcg = Lcg::new(SEED);
+    for _ in 0..DRAWN {
+        compare(&drawn(&mut lcg), tally)?;
+    }
+    Ok(())
+}
+
+fn main() -> ExitCode {
+    let mut tally = Tally::default();
+    match all(&mut tally) {
+        Ok(()) => {
+            println!(
+                "names: {} names, {} of them declarations, {} answers compared, no difference",
+                tally.names, tally.declarations, tally.answers
+            );
+            ExitCode::SUCCESS
+        }
+        Err(difference) => {
+            println!(
+                "names: difference after {} names: {difference}",
+                tally.names
+            );
+            ExitCode::FAILURE
+        }
+    }
+}

@@ -1,0 +1,652 @@
+//! Holds the library's iterator against the crate's own: answer, place and recorded keys after every
+//! step.
+//!
+//! The library is called through its batch. With room for one answer it is one step, and every step
+//! is compared; then the same run is read again with room for several, which has to give the same
+//! answers and leave the same state. What the crate decides is taken from the crate. Document 01's
+//! added refusals are decided here by its sentences: 7 from the state that is given, 6 where the
+//! crate records a 257th key. A run is compared up to the first of them.
+//!
+//! Compared too: key places that are not in use keep their content (7 leaves zeros), and numbers of
+//! the output behind the last answer are not written. Not compared: the position beside `done`, which
+//! says nothing, and a kind of place above 3, which document 01 doesn't know.
+//!
+//! Usage: `tags [--whole]`. Status 0 and counts where all agrees, status 1 and the first difference
+//! where it doesn't.
+
+#[path = "../oracle/src/cases.rs"]
+mod cases;
+
+use cases::{Lcg, Shape};
+use oracle::steps::{Place, Reader, opened_by_start_tag};
+use oracle::text::shown;
+use std::ops::Range;
+use std::process::ExitCode;
+
+/// The most keys that the library records.
+const KEYS: usize = 256;
+const SEED: u64 = 42_004;
+/// What stands in memory that a call has to leave alone.
+const UNTOUCHED: usize = 0x5a5a_5a5a;
+
+// Reads on from a lent state and writes answers while the output has room for one more, five numbers
+// each: a code and its values. Codes: 1 to 7 the refusals of document 01, 101 DoubleQ, 102 SingleQ,
+// 103 Unquoted, 104 Empty. The end writes nothing. The result is the number of answers.
+// `state`: the kind of the place (0 done, 1 next, 2 skip-value, 3 skip from the `=`), its position,
+// and the count of recorded keys, whose bounds stand in `starts` and `ends`.
+unsafe extern "C" {
+    #[allow(clippy::too_many_arguments)]
+    fn mz_read_batch(
+        tag: *const u8,
+        tag_len: usize,
+        starts: *mut [usize; KEYS],
+        ends: *mut [usize; KEYS],
+        state: *mut [usize; 3],
+        html: bool,
+        checks: bool,
+        out: *mut usize,
+        out_len: usize,
+    ) -> usize;
+}
+
+/// How much is run. The bounded part takes less than a minute.
+struct Extent {
+    every_up_to: u32,
+    drawn_short: usize,
+    states_up_to: u32,
+    drawn_states: usize,
+    drawn_long: usize,
+}
+
+const BOUNDED: Extent = Extent {
+    every_up_to: 4,
+    drawn_short: 200_000,
+    states_up_to: 2,
+    drawn_states: 500,
+    drawn_long: 4_000,
+};
+const WHOLE: Extent = Extent {
+    every_up_to: 6,
+    drawn_short: 2_000_000,
+    states_up_to: 3,
+    drawn_states: 4_000,
+    drawn_long: 40_000,
+};
+
+/// A tag with the mode and the checks it is read by.
+#[derive(Clone, Copy)]
+struct Tag<'t> {
+    bytes: &'t [u8],
+    html: bool,
+    checks: bool,
+}
+
+impl<'t> Tag<'t> {
+    /// The tag in both modes, with checks on and off.
+    fn readings(bytes: &'t [u8]) -> [Tag<'t>; 4] {
+        [(false, true), (false, false), (true, true), (true, false)].map(|(html, checks)| Tag {
+            bytes,
+            html,
+            checks,
+        })
+    }
+
+    /// The crate's reader of it, opened at a position.
+    const fn opened(&self, position: usize) -> Reader<'t> {
+        Reader::open(self.bytes, position, self.html, self.checks)
+    }
+
+    fn shown(&self) -> String {
+        let mode = if self.html { "html" } else { "xml" };
+        let checks = if self.checks { "on" } else { "off" };
+        format!("{mode} {checks} |{}|", shown(self.bytes))
+    }
+}
+
+/// The caller's own state that is lent to the library: the key tables, and the place's kind, its
+/// position, and the count of keys.
+#[derive(Clone, PartialEq)]
+struct State {
+    starts: [usize; KEYS],
+    ends: [usize; KEYS],
+    numbers: [usize; 3],
+}
+
+impl State {
+    fn at(place: Place, keys: &[Range<usize>]) -> Self {
+        let [kind, at] = place.numbers();
+        let mut state = State {
+            starts: [UNTOUCHED; KEYS],
+            ends: [UNTOUCHED; KEYS],
+            numbers: [kind, at, keys.len()],
+        };
+        for (index, key) in keys.iter().enumerate().take(KEYS) {
+            state.starts[index] = key.start;
+            state.ends[index] = key.end;
+        }
+        state
+    }
+
+    /// Document 01's table for 7: done, no keys, every key place zero.
+    const fn zeroed() -> Self {
+        State {
+            starts: [0; KEYS],
+            ends: [0; KEYS],
+            numbers: [0, 0, 0],
+        }
+    }
+
+    /// The library's batch on this state: the number of answers that it wrote.
+    fn read(&mut self, tag: Tag, out: &mut [usize]) -> usize {
+        // SAFETY: each pointer is that of a live array or slice of the stated length; the tag is
+        // only read, and the four that are written are borrowed mutably and apart from each other.
+        let count = unsafe {
+            mz_read_batch(
+                tag.bytes.as_ptr(),
+                tag.bytes.len(),
+                &mut self.starts,
+                &mut self.ends,
+                &mut self.numbers,
+                tag.html,
+                tag.checks,
+                out.as_mut_ptr(),
+                out.len(),
+            )
+        };
+        if self.numbers[0] == 0 {
+            self.numbers[1] = 0;
+        }
+        count
+    }
+
+    fn shown(&self) -> String {
+        let [kind, at, count] = self.numbers;
+        let kind = ["done", "next", "value", "eq"]
+            .get(kind)
+            .map_or(format!("kind {kind}"), |k| k.to_string());
+        let used = count.min(KEYS);
+        let keys = |indices: Range<usize>| -> String {
+            let key = |index: usize| format!(" {}..{}", self.starts[index], self.ends[index]);
+            indices.map(key).collect()
+        };
+        let listed = match used {
+            0..=8 => keys(0..used),
+            _ => format!("{} ..{}", keys(0..2), keys(used - 4..used)),
+        };
+        format!("{kind}:{at}, {count} keys{listed}")
+    }
+}
+
+/// The crate's reader, of either oracle.
+trait Crate {
+    fn step(&mut self) -> Option<[usize; 5]>;
+    fn place(&self) -> [usize; 2];
+    fn keys(&self) -> &[Range<usize>];
+}
+
+macro_rules! crate_reader {
+    ($($oracle:ident)*) => { $(
+        impl Crate for $oracle::steps::Reader<'_> {
+            fn step(&mut self) -> Option<[usize; 5]> {
+                self.step().map(|answer| answer.numbers())
+            }
+            fn place(&self) -> [usize; 2] {
+                self.place().numbers()
+            }
+            fn keys(&self) -> &[Range<usize>] {
+                self.keys()
+            }
+        }
+    )* };
+}
+crate_reader!(oracle oracle_two_bit);
+
+/// The answer that is due, and what it does to the lent state. Where the crate records a key beyond
+/// the table, document 01 has refusal 6 with that key's start, which leaves done and records nothing.
+fn due(reader: &mut impl Crate, state: &mut State) -> Option<[usize; 5]> {
+    let recorded = reader.keys().len();
+    let answer = reader.step();
+    let keys = reader.keys();
+    if let Some(key) = keys.get(recorded) {
+        if recorded == KEYS {
+            state.numbers = [0, 0, KEYS];
+            return Some([6, key.start, 0, 0, 0]);
+        }
+        state.starts[recorded] = key.start;
+        state.ends[recorded] = key.end;
+    }
+    let [kind, at] = reader.place();
+    state.numbers = [kind, at, keys.len()];
+    answer
+}
+
+/// Document 01's state 7: a recorded key that is empty or not inside the tag, more than 256 keys, a
+/// skip place not inside the tag, or a skip-from-`=` place whose byte is not `=`.
+fn is_bad(tag: &[u8], place: Place, keys: &[Range<usize>]) -> bool {
+    let bad_place = match place {
+        Place::Done | Place::Next(_) => false,
+        Place::SkipValue(at) => at >= tag.len(),
+        Place::SkipEqValue(at) => tag.get(at) != Some(&b'='),
+    };
+    bad_place
+        || keys.len() > KEYS
+        || keys
+            .iter()
+            .any(|key| key.start >= key.end || key.end > tag.len())
+}
+
+#[derive(Default)]
+struct Tally {
+    tags: usize,
+    runs: usize,
+    steps: usize,
+    full: usize,
+    bad: usize,
+}
+
+impl Tally {
+    fn line(&self, what: &str) -> String {
+        format!(
+            "{what}: {} tags, {} runs, {} steps compared ({} key tables full, {} bad states)",
+            self.tags, self.runs, self.steps, self.full, self.bad
+        )
+    }
+
+    fn add(&mut self, other: &Tally) {
+        self.tags += other.tags;
+        self.runs += other.runs;
+        self.steps += other.steps;
+        self.full += other.full;
+        self.bad += other.bad;
+    }
+
+    fn progress(&self, what: &str) {
+        if self.tags.is_multiple_of(20_000) {
+            eprintln!(
+                "tags: {what}: {} tags, {} steps so far",
+                self.tags, self.steps
+            );
+        }
+    }
+}
+
+fn answer_shown(answer: Option<[usize; 5]>) -> String {
+    answer.map_or("end".to_string(), |numbers| format!("{numbers:?}"))
+}
+
+/// One step of the library, held against what is due.
+fn hold_step(
+    tag: Tag,
+    ours: &mut State,
+    wanted: &State,
+    answer: Option<[usize; 5]>,
+) -> Result<(), String> {
+    let before = ours.clone();
+    let mut out = [UNTOUCHED; 5];
+    let count = ours.read(tag, &mut out);
+    let wanted_out = answer.unwrap_or([UNTOUCHED; 5]);
+    if count == usize::from(answer.is_some()) && out == wanted_out && ours == wanted {
+        return Ok(());
+    }
+    let got = match count {
+        0 => "end".to_string(),
+        1 => format!("{out:?}"),
+        _ => format!("{count} answers, the first {out:?}"),
+    };
+    let beside = if count == 0 && out != wanted_out {
+        " (the end wrote to the output)"
+    } else if ours.numbers == wanted.numbers && ours != wanted {
+        " (a key place differs)"
+    } else {
+        ""
+    };
+    Err(format!(
+        "{}\n  from   {}\n  ours   {got} leaving {}{beside}\n  wanted {} leaving {}",
+        tag.shown(),
+        before.shown(),
+        ours.shown(),
+        answer_shown(answer),
+        wanted.shown()
+    ))
+}
+
+/// A whole run: step by step against the reader, then again in batches against those steps.
+fn hold_run(
+    tag: Tag,
+    position: usize,
+    mut reader: impl Crate,
+    tally: &mut Tally,
+) -> Result<(), String> {
+    let opened = State::at(Place::Next(position), &[]);
+    let (mut ours, mut wanted) = (opened.clone(), opened.clone());
+    let mut answers = Vec::new();
+    loop {
+        let answer = due(&mut reader, &mut wanted);
+        hold_step(tag, &mut ours, &wanted, answer)?;
+        tally.steps += 1;
+        answers.extend(answer.iter().flatten().copied());
+        let full = matches!(answer, Some([6, ..]));
+        tally.full += usize::from(full);
+        if full || answer.is_none() {
+            break;
+        }
+    }
+    tally.runs += 1;
+    hold_batches(tag, opened, &wanted, &answers, tally.runs)
+}
+
+/// The run again, with room for 1 to 9 answers at a time and up to four numbers that make none.
+fn hold_batches(
+    tag: Tag,
+    opened: State,
+    left: &State,
+    answers: &[usize],
+    varied: usize,
+) -> Result<(), String> {
+    let room = 1 + varied % 9;
+    let mut ours = opened;
+    let mut read = Vec::new();
+    let mut out = vec![UNTOUCHED; 5 * room + varied % 5];
+    loop {
+        out.fill(UNTOUCHED);
+        let count = ours.read(tag, &mut out);
+        let written = out.get(..5 * count).unwrap_or_default();
+        let behind = out.get(5 * count..).unwrap_or_default();
+        if count > room || behind.iter().any(|&number| number != UNTOUCHED) {
+            return Err(format!(
+                "{} in batches of {room}: wrote behind its {count} answers",
+                tag.shown()
+            ));
+        }
+        read.extend_from_slice(written);
+        // More answers than are due: no need to wait for an end.
+        if count < room || read.len() > answers.len() {
+            break;
+        }
+    }
+    if read == answers && ours == *left {
+        return Ok(());
+    }
+    Err(format!(
+        "{} in batches of {room}\n  ours   {read:?} leaving {}\n  wanted {answers:?} leaving {}",
+        tag.shown(),
+        ours.shown(),
+        left.shown()
+    ))
+}
+
+/// A tag from every opening position up to one past its end.
+fn hold_everywhere(bytes: &[u8], tally: &mut Tally) -> Result<(), String> {
+    tally.tags += 1;
+    for position in 0..=bytes.len() + 1 {
+        for tag in Tag::readings(bytes) {
+            hold_run(tag, position, tag.opened(position), tally)?;
+        }
+    }
+    Ok(())
+}
+
+/// What document 01 takes of the crate: whitespace is four bytes, and a start tag's attributes are
+/// read from its name's end in XML mode. Then every byte in each place where a rule looks at it, so
+/// that no other byte counts as whitespace, `=` or a quote.
+fn every_byte(_: &Extent, tally: &mut Tally) -> Result<(), String> {
+    for byte in 0..=u8::MAX {
+        if oracle::is_whitespace(byte) != matches!(byte, 0x20 | 0x09 | 0x0d | 0x0a) {
+            return Err(format!(
+                "the crate and document 01 differ on whitespace: byte {byte}"
+            ));
+        }
+    }
+    for name_len in 0..9 {
+        let opened = opened_by_start_tag("tag a='1'", name_len);
+        if opened.place() != Place::Next(name_len) || opened.html() || !opened.checks() {
+            return Err(format!(
+                "a start tag of name length {name_len} is not read from there in XML mode"
+            ));
+        }
+    }
+    let around: [[&[u8]; 2]; 9] = [
+        [b"", b""],
+        [b"", b"a"],
+        [b"a", b""],
+        [b"a", b"=\"1\""],
+        [b"a=", b"'1'"],
+        [b"a='1'", b"b"],
+        [b"a=\"", b"\""],
+        [b"a=1", b"b='2'"],
+        [b"a='1' a='2'", b"b"],
+    ];
+    for byte in 0..=u8::MAX {
+        for [before, after] in around {
+            hold_everywhere(&[before, &[byte], after].concat(), tally)?;
+        }
+    }
+    Ok(())
+}
+
+fn every_short(extent: &Extent, tally: &mut Tally) -> Result<(), String> {
+    for len in 0..=extent.every_up_to {
+        for bytes in cases::every(&cases::TELLING, len) {
+            hold_everywhere(&bytes, tally)?;
+            tally.progress("every short tag");
+        }
+    }
+    Ok(())
+}
+
+/// Longer than those, some with all four whitespace bytes, some with bytes that are no UTF-8.
+fn drawn_short(extent: &Extent, tally: &mut Tally) -> Result<(), String> {
+    let mut lcg = Lcg::new(SEED);
+    let alphabets: [&[u8]; 3] = [
+        &cases::TELLING,
+        b"  aab==\"\"''\r\n\t",
+        b" a=\"'\xff\xc3\xa9",
+    ];
+    for _ in 0..extent.drawn_short {
+        let len = 5 + lcg.below(14);
+        let alphabet = lcg.pick(&alphabets);
+        let bytes = cases::drawn(&mut lcg, alphabet, len);
+        let position = if lcg.chance(50) {
+            0
+        } else {
+            lcg.below(len + 2)
+        };
+        tally.tags += 1;
+        for tag in Tag::readings(&bytes) {
+            hold_run(tag, position, tag.opened(position), tally)?;
+        }
+        tally.progress("drawn short tags");
+    }
+    Ok(())
+}
+
+/// One step from a given state.
+fn hold_state(
+    tag: Tag,
+    place: Place,
+    keys: &[Range<usize>],
+    tally: &mut Tally,
+) -> Result<(), String> {
+    let mut ours = State::at(place, keys);
+    let mut wanted = ours.clone();
+    let answer = if is_bad(tag.bytes, place, keys) {
+        tally.bad += 1;
+        wanted = State::zeroed();
+        Some([7, 0, 0, 0, 0])
+    } else {
+        let mut reader = Reader::from_state(tag.bytes, place, tag.html, tag.checks, keys)
+            .ok_or_else(|| format!("{}: the crate can't step from a good state", tag.shown()))?;
+        due(&mut reader, &mut wanted)
+    };
+    tally.full += usize::from(matches!(answer, Some([6, ..])));
+    tally.runs += 1;
+    tally.steps += 1;
+    hold_step(tag, &mut ours, &wanted, answer)
+}
+
+/// More keys than any table holds, by the count alone.
+fn hold_overcount(tag: Tag, place: Place, tally: &mut Tally) -> Result<(), String> {
+    let mut ours = State::at(place, &[]);
+    ours.numbers[2] = usize::MAX;
+    tally.bad += 1;
+    tally.runs += 1;
+    tally.steps += 1;
+    hold_step(tag, &mut ours, &State::zeroed(), Some([7, 0, 0, 0, 0]))
+}
+
+fn places(len: usize) -> Vec<Place> {
+    let mut places = vec![Place::Done];
+    for at in (0..=len + 2).chain([usize::MAX]) {
+        places.extend([
+            Place::Next(at),
+            Place::SkipValue(at),
+            Place::SkipEqValue(at),
+        ]);
+    }
+    places
+}
+
+/// Every list of up to two keys, good or not, and each key as often as nearly fills the table, fills
+/// it, and is too often.
+fn key_lists(len: usize) -> Vec<Vec<Range<usize>>> {
+    let bounds = 0..=len + 1;
+    let keys: Vec<_> = bounds
+        .clone()
+        .flat_map(|start| bounds.clone().map(move |end| start..end))
+        .collect();
+    let mut lists = vec![Vec::new()];
+    for first in &keys {
+        lists.push(vec![first.clone()]);
+        lists.extend(
+            keys.iter()
+                .map(|second| vec![first.clone(), second.clone()]),
+        );
+        lists.extend([KEYS - 1, KEYS, KEYS + 1].map(|count| vec![first.clone(); count]));
+    }
+    lists
+}
+
+fn hold_states(bytes: &[u8], lists: &[Vec<Range<usize>>], tally: &mut Tally) -> Result<(), String> {
+    tally.tags += 1;
+    for place in places(bytes.len()) {
+        for tag in Tag::readings(bytes) {
+            hold_overcount(tag, place, tally)?;
+            for keys in lists {
+                hold_state(tag, place, keys, tally)?;
+            }
+        }
+    }
+    Ok(())
+}
+
+/// Every state on short tags, then drawn states on longer ones.
+fn states(extent: &Extent, tally: &mut Tally) -> Result<(), String> {
+    for len in 0..=extent.states_up_to {
+        let lists = key_lists(len as usize);
+        for bytes in cases::every(&cases::TELLING, len) {
+            hold_states(&bytes, &lists, tally)?;
+        }
+        eprintln!(
+            "tags: states on every tag of {len} bytes: {} steps so far",
+            tally.steps
+        );
+    }
+    let mut lcg = Lcg::new(SEED + 1);
+    for _ in 0..extent.drawn_states {
+        let len = 4 + lcg.below(6);
+        let bytes = cases::drawn(&mut lcg, &cases::TELLING, len);
+        let places = places(len);
+        tally.tags += 1;
+        for _ in 0..500 {
+            let tag = Tag::readings(&bytes)[lcg.below(4)];
+            let place = places[lcg.below(places.len())];
+            let count = lcg.below(3);
+            let keys: Vec<_> = (0..count).map(|_| drawn_key(&mut lcg, len)).collect();
+            hold_state(tag, place, &keys, tally)?;
+        }
+    }
+    Ok(())
+}
+
+// Good for the most part.
+fn drawn_key(lcg: &mut Lcg, len: usize) -> Range<usize> {
+    if lcg.chance(10) {
+        return lcg.below(len + 2)..lcg.below(len + 2);
+    }
+    let start = lcg.below(len);
+    start..start + 1 + lcg.below(len - start)
+}
+
+/// Up to 320 attributes, whole, repeated and damaged, against both oracles.
+fn drawn_long(extent: &Extent, tally: &mut Tally) -> Result<(), String> {
+    let mut lcg = Lcg::new(SEED + 2);
+    for _ in 0..extent.drawn_long {
+        let shape = Shape {
+            attributes: if lcg.chance(40) {
+                250 + lcg.below(71)
+            } else {
+                1 + lcg.below(320)
+            },
+            repeated: [0, 0, 3, 20][lcg.below(4)],
+            damaged: [0, 0, 2, 10, 40][lcg.below(5)],
+            wild: lcg.chance(30),
+        };
+        let bytes = cases::long_tag(&mut lcg, &shape);
+        let position = if lcg.chance(80) {
+            0
+        } else {
+            lcg.below(bytes.len() + 2)
+        };
+        tally.tags += 1;
+        for tag in Tag::readings(&bytes) {
+            hold_run(tag, position, tag.opened(position), tally)?;
+            let two_bit =
+                oracle_two_bit::steps::Reader::open(&bytes, position, tag.html, tag.checks);
+            hold_run(tag, position, two_bit, tally)?;
+        }
+        if tally.tags.is_multiple_of(1_000) {
+            eprintln!(
+                "tags: drawn long tags: {} tags, {} steps so far",
+                tally.tags, tally.steps
+            );
+        }
+    }
+    Ok(())
+}
+
+type Part = fn(&Extent, &mut Tally) -> Result<(), String>;
+
+const PARTS: [(&str, Part); 5] = [
+    ("every byte", every_byte),
+    ("every short tag", every_short),
+    ("drawn short tags", drawn_short),
+    ("states", states),
+    ("drawn long tags", drawn_long),
+];
+
+fn main() -> ExitCode {
+    let arguments: Vec<String> = std::env::args().skip(1).collect();
+    let extent = match &arguments[..] {
+        [] => BOUNDED,
+        [whole] if whole == "--whole" => WHOLE,
+        _ => {
+            eprintln!("usage: tags [--whole]");
+            return ExitCode::FAILURE;
+        }
+    };
+    let mut all = Tally::default();
+    for (what, part) in PARTS {
+        let mut tally = Tally::default();
+        if let Err(difference) = part(&extent, &mut tally) {
+            println!(
+                "tags: difference in {what}, after {} steps: {difference}",
+                tally.steps
+            );
+            return ExitCode::FAILURE;
+        }
+        println!("{}", tally.line(what));
+        all.add(&tally);
+    }
+    println!("{}, no difference", all.line("tags"));
+    ExitCode::SUCCESS
+}

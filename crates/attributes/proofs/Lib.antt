@@ -1,0 +1,10 @@
+pub mod Paths
+pub mod Zeros
+pub mod Whole
+pub mod Ways
+pub mod Progress
+pub mod Good
+pub mod Run
+pub mod Parts
+pub mod Table
+pub mod Numbers

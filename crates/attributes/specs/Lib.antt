@@ -1,0 +1,6 @@
+pub mod Read
+pub mod Next
+pub mod Run
+pub mod Look
+pub mod Numbers
+pub mod Parts

@@ -1,0 +1,9 @@
+pub mod Recorded
+pub mod Step
+pub mod Begin
+pub mod Cuts
+pub mod Sim
+pub mod Cutting
+pub mod Theorem
+pub mod Examples
+pub mod Stable

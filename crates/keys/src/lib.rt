@@ -1,0 +1,131 @@
+// The recorded keys of the attribute iterator, on tables that the caller lends.
+//
+// Ports `IterState::check_for_duplicates`, src/events/attributes.rs. The crate's `keys: Vec<Range<usize>>` is here two
+// tables of the keys' starts and ends and a count. Its hash set, from the 33rd key, is not ported: every key is compared
+// with all recorded ones, and `any-hash-agrees` (proofs/Hash.antt) says that no hash could answer otherwise.
+ghost use mathlib.Core.Path.{_≡_};
+ghost use Prim.Native.Nat.{_+_, _≤_, _<_};
+ghost use lib.ListN.{length};
+ghost use Rattle.keys.specs.Keys.{KeysIn, Room, tableGood, earlierOf, checkedOf, writtenBy};
+
+// How many keys can be recorded: `capacity` of specs/Keys.antt.
+pub const CAPACITY: usize = 256;
+
+// What a search of the recorded keys finds.
+pub enum Earlier {
+    // the start of the oldest recorded key with the same bytes
+    At(usize),
+    Nothing,
+}
+
+// The verdict on a key that is due to be recorded.
+pub enum Checked {
+    // It is new. This many keys are recorded now: one more than before, or as many while checks are off.
+    Fresh(usize),
+    // `a='1' a="2"`: it has the bytes of an earlier key, which starts here. Refusal 5; nothing is written.
+    Same(usize),
+    // It is new, and the tables hold `CAPACITY` keys already. Refusal 6; nothing is written.
+    Full,
+}
+
+// The oldest recorded key with the bytes from `from` up to `to`. Lengths are compared first; then the bytes, from the
+// last to the first, since the names that stand in one tag differ most often at their ends.
+//
+//     x:id="1" x:ref="2" x:id="3"
+//     |        |         |   ^
+//     0        1      from   to        the answer is the key at index 0
+pub fn earlier_key<'a>(
+    tag: &[u8],
+    starts: &'a [usize],
+    ends: &'a [usize],
+    count: usize,
+    from: usize,
+    to: usize,
+) -> Earlier
+    requires { ⌜ KeysIn (now starts) (now ends) count (length (now tag)) ⌝ }
+    requires { ⌜ (from ≤ to) × (to ≤ length (now tag)) ⌝ }
+    ensures { λ r. ⌜ r ≡ earlierOf (now (tag .entry)) (now (starts .entry)) (now (ends .entry)) count from to ⌝ }
+{
+    let len = to - from;
+    let mut found = Earlier::Nothing;
+    let mut k = 0;
+    'keys: while k < count {
+        let start = starts[k];
+        let end = ends[k];
+        k += 1;
+        if end - start != len {
+            continue 'keys;
+        }
+        let mut j = len;
+        while j > 0 {
+            j -= 1;
+            if tag[start + j] != tag[from + j] {
+                continue 'keys;
+            }
+        }
+        found = Earlier::At(start);
+        break 'keys;
+    }
+    found
+}
+
+// Whether the first `count` places of the tables hold keys of a tag of `len` bytes, none of them empty.
+pub fn keys_good<'a>(len: usize, starts: &'a [usize], ends: &'a [usize], count: usize) -> bool
+    ensures { λ r. ⌜ r ≡ tableGood len (now (starts .entry)) (now (ends .entry)) count ⌝ }
+{
+    if count > CAPACITY {
+        return false;
+    }
+    if count > starts.len() {
+        return false;
+    }
+    if count > ends.len() {
+        return false;
+    }
+    let mut i = 0;
+    while i < count {
+        let start = starts[i];
+        let end = ends[i];
+        if start >= end {
+            return false;
+        }
+        if end > len {
+            return false;
+        }
+        i += 1;
+    }
+    true
+}
+
+// Checks the key from `from` up to `to`, and records it where it is new and there is room:
+// `IterState::check_for_duplicates`, src/events/attributes.rs.
+pub fn check_for_duplicates<'a>(
+    tag: &[u8],
+    starts: &'a mut [usize],
+    ends: &'a mut [usize],
+    checks: bool,
+    count: usize,
+    from: usize,
+    to: usize,
+) -> Checked
+    requires { ⌜ KeysIn (now starts) (now ends) count (length (now tag)) ⌝ }
+    requires { ⌜ Room checks (now starts) (now ends) ⌝ }
+    requires { ⌜ (from ≤ to) × (to ≤ length (now tag)) ⌝ }
+    ensures { λ r. ⌜ (r ≡ checkedOf (now (tag .entry)) checks (now (starts .entry)) (now (ends .entry)) count from to) × (now (starts .exit) ≡ writtenBy checks r (now (starts .entry)) count from) × (now (ends .exit) ≡ writtenBy checks r (now (ends .entry)) count to) ⌝ }
+{
+    if !checks {
+        return Checked::Fresh(count);
+    }
+    let earlier = earlier_key(tag, starts, ends, count, from, to);
+    match earlier {
+        Earlier::At(p) => Checked::Same(p),
+        Earlier::Nothing => {
+            if count >= CAPACITY {
+                return Checked::Full;
+            }
+            starts[count] = from;
+            ends[count] = to;
+            Checked::Fresh(count + 1)
+        }
+    }
+}

@@ -1,0 +1,4 @@
+pub mod Split
+pub mod Declared
+pub mod Verdicts
+pub mod Examples

@@ -1,0 +1,4 @@
+pub mod Laws
+pub mod Bytes
+pub mod Marks
+pub mod Move

@@ -1,0 +1,10 @@
+pub mod OneAnswer
+pub mod Cursor
+pub mod Tests
+pub mod OneAttribute
+pub mod Bodies
+pub mod Values
+pub mod WellFormed
+pub mod Accepted
+pub mod Examples
+pub mod Resume

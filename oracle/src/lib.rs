@@ -1,0 +1,61 @@
+//! The oracle: quick-xml 0.42.0's own attribute iterator and namespace scopes, compiled from the
+//! crate's source as it was published, with what is private made visible.
+//!
+//! This file stands where the crate's `src/lib.rs` would. `encoding`, `errors`, `events`,
+//! `events/attributes`, `name` and `utils` are the crate's files; at the end of two of them `build`
+//! appends one `mod` line, so that `steps` and `scopes`, which are ours, stand inside the modules
+//! whose private parts they show. What the crate leans on and is not given (`escape`, `memchr`,
+//! `XmlVersion`'s method) has the crate's signature and a body that is never reached.
+
+#![forbid(unsafe_code)]
+// The crate's files come with parts that nothing here calls.
+#![allow(dead_code, deprecated, unused_imports)]
+
+// `utils.rs` names the crate `memchr` by its path: this crate answers to that name as well.
+extern crate self as memchr;
+
+mod encoding;
+mod errors;
+mod escape;
+mod events;
+mod name;
+pub mod text;
+mod utils;
+
+pub use events::BytesStart;
+pub use events::attributes::steps;
+pub use name::scopes;
+pub use name::{
+    Namespace, NamespaceError, NamespaceResolver, Prefix, PrefixDeclaration, QName, ResolveResult,
+};
+pub use utils::is_whitespace;
+
+use std::borrow::Cow;
+
+/// The crate's enum of XML versions, which its methods on text and values name.
+#[derive(Debug, Clone, Copy, PartialEq, Eq, Hash)]
+pub enum XmlVersion {
+    Implicit1_0,
+    Explicit1_0,
+    Explicit1_1,
+}
+
+impl XmlVersion {
+    pub(crate) fn normalize_attribute_value<'input, 'entity, F>(
+        &self,
+        _value: &'input str,
+        _depth: usize,
+        _resolve_entity: F,
+    ) -> Result<Cow<'input, str>, escape::EscapeError>
+    where
+        F: FnMut(&str) -> Option<&'entity str>,
+    {
+        unreachable!("normalisation is not part of the oracle")
+    }
+}
+
+/// `memchr::memchr_iter`, which `utils.rs` uses to cut CDATA sections.
+#[doc(hidden)]
+pub fn memchr_iter(_needle: u8, _haystack: &[u8]) -> std::iter::Empty<usize> {
+    unreachable!("CDATA is not part of the oracle")
+}
