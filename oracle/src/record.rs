@@ -1,9 +1,13 @@
-//! Writes the oracle's answers about fixed lists of names and tags, as text for people and as bytes
-//! for a program that knows no strings. The two forms hold the same cases in the same order.
+//! Writes the oracle's answers about fixed lists of names, tags and calls on a resolver, as text for
+//! people and as bytes for a program that knows no strings. The two forms hold the same cases in the
+//! same order.
 //!
-//! Usage: `record names|tags text|bytes`.
+//! Usage: `record names|tags|scopes text|bytes`.
 
+mod calls;
 mod cases;
+mod declarations;
+mod due;
 
 use cases::{Lcg, Shape};
 use oracle::PrefixDeclaration;
@@ -21,25 +25,29 @@ fn main() -> ExitCode {
     let arguments: Vec<String> = std::env::args().skip(1).collect();
     let words: Vec<&str> = arguments.iter().map(String::as_str).collect();
     let written = match words[..] {
-        ["names", "text"] => names_text().into_bytes(),
-        ["names", "bytes"] => names().iter().flat_map(|name| name_bytes(name)).collect(),
-        ["tags", "text"] => tags_text().into_bytes(),
-        ["tags", "bytes"] => tags().iter().flat_map(tag_bytes).collect(),
-        _ => {
-            eprintln!("usage: record names|tags text|bytes");
-            return ExitCode::FAILURE;
-        }
+        ["names", "text"] => Ok(names_text().into_bytes()),
+        ["names", "bytes"] => Ok(names().iter().flat_map(|name| name_bytes(name)).collect()),
+        ["tags", "text"] => Ok(tags_text().into_bytes()),
+        ["tags", "bytes"] => Ok(tags().iter().flat_map(tag_bytes).collect()),
+        ["scopes", "text"] => calls::text().map(String::into_bytes),
+        ["scopes", "bytes"] => calls::bytes(two),
+        _ => Err("usage: record names|tags|scopes text|bytes".to_string()),
     };
-    match std::io::stdout().write_all(&written) {
+    let done = written.and_then(|bytes| {
+        let mut out = std::io::stdout();
+        out.write_all(&bytes)
+            .map_err(|why| format!("can't write: {why}"))
+    });
+    match done {
         Ok(()) => ExitCode::SUCCESS,
         Err(why) => {
-            eprintln!("record: can't write: {why}");
+            eprintln!("record: {why}");
             ExitCode::FAILURE
         }
     }
 }
 
-// Two bytes, the lower first. Every number in the lists is far below 65,535.
+// Two bytes, the lower first. No number in the lists is above 65,535.
 fn two(number: usize) -> [u8; 2] {
     u16::try_from(number)
         .expect("a recorded number fits two bytes")

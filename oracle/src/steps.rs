@@ -16,6 +16,7 @@ use crate::events::BytesStart;
 use crate::name::{NamespaceResolver, QName};
 use std::borrow::Cow;
 use std::fmt::{self, Display, Formatter};
+use std::hint::black_box;
 use std::ops::Range;
 
 /// Where reading goes on: the crate's private `State`.
@@ -237,6 +238,34 @@ pub fn run(tag: &[u8], position: usize, html: bool, checks: bool) -> Vec<Step> {
             return steps;
         }
     }
+}
+
+/// The number of answers of the crate's public `Attributes`, read in a caller's loop. Each answer is
+/// kept from being optimised away: this and `count_by_state` are for measuring.
+pub fn count_by_attributes(tag: &str, html: bool, checks: bool) -> usize {
+    let mut attributes = match html {
+        true => Attributes::html(tag, 0),
+        false => Attributes::new(tag, 0),
+    };
+    attributes.with_checks(checks);
+    let mut count = 0;
+    for answer in attributes {
+        black_box(&answer);
+        count += 1;
+    }
+    count
+}
+
+/// The same of the private `IterState`, whose answers are bounds and no parts of the tag.
+pub fn count_by_state(tag: &[u8], html: bool, checks: bool) -> usize {
+    let mut state = IterState::new(0, html);
+    state.check_duplicates = checks;
+    let mut count = 0;
+    while let Some(answer) = state.next(tag) {
+        black_box(&answer);
+        count += 1;
+    }
+    count
 }
 
 /// One step from a given state. `None` where `Reader::from_state` gives none.

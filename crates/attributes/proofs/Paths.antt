@@ -18,9 +18,6 @@ use Rattle.attributes.specs.declared.Answer.the-variants.{Unquoted, Expe
 use Rattle.attributes.specs.Read.{span, found, isAt, isQuote, skipTo, skipOf, skipEqIn, skipEqFrom, skipEqValueOf, recoverOf, keyEq, keyTo, keyFrom, keyAt, quoted, closedOf, quotedTo, quotedOf, unquotedTo, otherOf, valueIn, valueFrom, valueAt}
 use Rattle.attributes.specs.Next.{placeAt, placeGood}
 
-pub and-false : (a b : Bool) → a ≡ false → false ≡ (a && b)
-and-false a b e = rw e
-
 pub and-true : (a b : Bool) → a ≡ true → b ≡ (a && b)
 and-true a b e = rw e
 

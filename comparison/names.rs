@@ -29,14 +29,14 @@ const XML_URI: &[u8] = b"http://www.w3.org/XML/1998/namespace";
 const XMLNS_URI: &[u8] = b"http://www.w3.org/2000/xmlns/";
 
 // `mz_split`: the index of the first colon, or the length where there is none. `mz_declares`: 0 no
-// declaration, 1 the default, 2 the prefix behind `xmlns:`. The others answer 0 or 1. `mz_verdict` is
-// asked about declarations alone.
+// declaration, 1 the default, 2 the prefix behind `xmlns:`. `mz_verdict`: 0 no, 1 yes, 2 the name
+// declares nothing. The others answer 0 or 1.
 unsafe extern "C" {
     fn mz_split(name: *const u8, len: usize) -> usize;
     fn mz_declares(name: *const u8, len: usize) -> usize;
     fn mz_is_xml(prefix: *const u8, len: usize) -> u8;
     fn mz_is_xmlns(prefix: *const u8, len: usize) -> u8;
-    fn mz_verdict(name: *const u8, name_len: usize, value: *const u8, value_len: usize) -> u8;
+    fn mz_verdict(name: *const u8, name_len: usize, value: *const u8, value_len: usize) -> usize;
 }
 
 fn our_split(name: &[u8]) -> usize {
@@ -59,7 +59,7 @@ fn our_is_xmlns(prefix: &[u8]) -> u8 {
     unsafe { mz_is_xmlns(prefix.as_ptr(), prefix.len()) }
 }
 
-fn our_verdict(name: &[u8], value: &[u8]) -> u8 {
+fn our_verdict(name: &[u8], value: &[u8]) -> usize {
     // SAFETY: as for `mz_split`, for two slices.
     unsafe { mz_verdict(name.as_ptr(), name.len(), value.as_ptr(), value.len()) }
 }
@@ -124,7 +124,10 @@ fn compare(name: &[u8], tally: &mut Tally) -> Result<(), String> {
     }
 
     let (kind, declared) = match scopes::declares(&asked) {
-        None => return tally.hold("declares", name, our_declares(name), 0),
+        None => {
+            tally.hold("declares", name, our_declares(name), 0)?;
+            return tally.hold("verdict", name, our_verdict(name, b"u"), 2);
+        }
         Some(PrefixDeclaration::Default) => (1, None),
         Some(PrefixDeclaration::Named(named)) => (2, Some(&name[name.len() - named.len()..])),
     };
@@ -148,7 +151,7 @@ fn compare_verdicts(name: &[u8], declared: Option<&[u8]>, tally: &mut Tally) -> 
         b"http://www.w3.org/2000/xmlns//",
     ];
     for value in values {
-        let wanted = u8::from(verdict(declared, value));
+        let wanted = usize::from(verdict(declared, value));
         let about = format!("verdict on the value |{}|", shown(value));
         tally.hold(&about, name, our_verdict(name, value), wanted)?;
     }

@@ -1,0 +1,323 @@
+//! Times the library's iterator against the crate's own: one process, the same tags, XML mode, both
+//! built for release.
+//!
+//! Four ways to read a whole tag take turns, a short round each, and of all its rounds each way's
+//! fastest counts: another program on the machine can slow a round down, and nothing can make one
+//! faster. For the crate the faster of two ways is taken, its public `Attributes` and the private
+//! `IterState` below it. The library's batch is lent the same tables for every tag; they are not
+//! cleared in between. Its `next` hands the whole state over by value at each step.
+//!
+//! Usage: `iterator [--check] [--markdown]`. Status 1 where the ways differ in how many answers a tag
+//! has or, with `--check`, where a ratio is below the one that is wanted.
+
+use oracle::steps::{count_by_attributes, count_by_state};
+use std::hint::black_box;
+use std::process::ExitCode;
+use std::time::Instant;
+
+const KEYS: usize = 256;
+/// Room for all answers of any tag here, and one more, so that one call reads to the end.
+const ROOM: usize = 5 * (KEYS + 1);
+const ROUNDS: usize = 400;
+const ROUND_NANOSECONDS: f64 = 200_000.0;
+
+// As in comparison/tags.rs: five numbers for each answer, and the result is how many there are.
+// `mz_count_by_next` reads a tag from 0 to its end, one by-value step after another.
+unsafe extern "C" {
+    #[allow(clippy::too_many_arguments)]
+    fn mz_read_batch(
+        tag: *const u8,
+        tag_len: usize,
+        starts: *mut [usize; KEYS],
+        ends: *mut [usize; KEYS],
+        state: *mut [usize; 3],
+        html: bool,
+        checks: bool,
+        out: *mut usize,
+        out_len: usize,
+    ) -> usize;
+    fn mz_count_by_next(tag: *const u8, tag_len: usize, html: bool, checks: bool) -> usize;
+}
+
+/// What is lent to the batch, tag after tag.
+struct Lent {
+    starts: [usize; KEYS],
+    ends: [usize; KEYS],
+    out: [usize; ROOM],
+}
+
+impl Lent {
+    fn read(&mut self, tag: &[u8], checks: bool) -> usize {
+        // The place next, at 0, and no recorded key.
+        let mut state = [1, 0, 0];
+        // SAFETY: each pointer is that of a live array or slice of the stated length; the tag is only
+        // read, and the four that are written are borrowed mutably and apart from each other.
+        let count = unsafe {
+            mz_read_batch(
+                tag.as_ptr(),
+                tag.len(),
+                &mut self.starts,
+                &mut self.ends,
+                &mut state,
+                false,
+                checks,
+                self.out.as_mut_ptr(),
+                ROOM,
+            )
+        };
+        black_box(&self.out);
+        count
+    }
+}
+
+fn read_by_next(tag: &[u8], checks: bool) -> usize {
+    // SAFETY: the pointer and the length are those of one slice, which the call only reads.
+    unsafe { mz_count_by_next(tag.as_ptr(), tag.len(), false, checks) }
+}
+
+/// A tag, and the least ratio that the batch is wanted to have with checks on and with checks off.
+struct Case {
+    name: String,
+    tag: String,
+    wanted: [Option<f64>; 2],
+}
+
+const CATALOGUE: &str = " id=\"c-0000042\" offset=\"18446744\" length=\"65536\" \
+                         volume=\"archive/north-17\" sha=\"9f86d081884c7d659a2feaa0c55ad015a3bf4f1b\"";
+const _: () = assert!(CATALOGUE.len() == 121);
+
+fn cases() -> Vec<Case> {
+    let case = |name: &str, tag: String, on: f64, off: Option<f64>| Case {
+        name: name.to_string(),
+        tag,
+        wanted: [Some(on), off],
+    };
+    let short = |count: usize, on: f64| {
+        let tag = (0..count).map(|n| format!(" a{n}=\"{n}\"")).collect();
+        case(&format!("{count} short attributes"), tag, on, Some(1.25))
+    };
+    let unquoted = (0..20).map(|n| format!(" a{n}=v{n}")).collect();
+    let long = "v".repeat(4_096);
+    vec![
+        case(
+            "catalogue, 5 attributes, 121 bytes",
+            CATALOGUE.to_string(),
+            1.8,
+            Some(1.25),
+        ),
+        short(22, 1.5),
+        short(32, 1.5),
+        short(33, 1.5),
+        short(64, 1.0),
+        short(256, 0.3),
+        case(
+            "two values of 4 KB",
+            format!(" a=\"{long}\" b='{long}'"),
+            8.0,
+            None,
+        ),
+        case("20 unquoted values", unquoted, 1.8, None),
+    ]
+}
+
+/// One tag with checks on or off: how many answers it has, and nanoseconds a tag.
+struct Row {
+    name: String,
+    checks: bool,
+    answers: usize,
+    by_crate: f64,
+    batch: f64,
+    next: f64,
+    wanted: Option<f64>,
+}
+
+impl Row {
+    /// How many times the crate's speed the batch has.
+    fn batch_ratio(&self) -> f64 {
+        self.by_crate / self.batch
+    }
+
+    fn next_ratio(&self) -> f64 {
+        self.by_crate / self.next
+    }
+
+    const fn checks_shown(&self) -> &'static str {
+        if self.checks { "on" } else { "off" }
+    }
+
+    /// What is said where the batch's ratio is below the wanted one.
+    fn missed(&self) -> Option<String> {
+        let wanted = self.wanted?;
+        let ratio = self.batch_ratio();
+        (ratio < wanted).then(|| {
+            let checks = self.checks_shown();
+            format!(
+                "missed: {}, checks {checks}: {ratio:.2}, wanted {wanted}",
+                self.name
+            )
+        })
+    }
+}
+
+/// Nanoseconds for one of so many readings, one after another.
+fn time(read: &mut dyn FnMut() -> usize, times: usize) -> f64 {
+    let start = Instant::now();
+    for _ in 0..times {
+        black_box(read());
+    }
+    start.elapsed().as_nanos() as f64 / times as f64
+}
+
+/// The fastest round of each way. The way that begins changes from round to round.
+fn fastest<const N: usize>(mut ways: [&mut dyn FnMut() -> usize; N]) -> [f64; N] {
+    let mut times = [1; N];
+    for (way, times) in ways.iter_mut().zip(&mut times) {
+        time(&mut **way, 3);
+        *times = (ROUND_NANOSECONDS / time(&mut **way, 3)).clamp(1.0, 1e6) as usize;
+    }
+    let mut least = [f64::INFINITY; N];
+    for round in 0..ROUNDS {
+        for turn in 0..N {
+            let way = (round + turn) % N;
+            least[way] = least[way].min(time(&mut *ways[way], times[way]));
+        }
+    }
+    least
+}
+
+fn measure(case: &Case, checks: bool) -> Result<Row, String> {
+    let text = case.tag.as_str();
+    let tag = text.as_bytes();
+    let mut lent = Lent {
+        starts: [0; KEYS],
+        ends: [0; KEYS],
+        out: [0; ROOM],
+    };
+    let mut attributes = || count_by_attributes(black_box(text), false, checks);
+    let mut state = || count_by_state(black_box(tag), false, checks);
+    let mut batch = || lent.read(black_box(tag), checks);
+    let mut next = || read_by_next(black_box(tag), checks);
+    let counts = [attributes(), state(), batch(), next()];
+    let answers = counts[0];
+    if counts.iter().any(|&count| count != answers) {
+        return Err(format!(
+            "{}: Attributes, IterState, batch and next give {counts:?} answers",
+            case.name
+        ));
+    }
+    let [attributes, state, batch, next] =
+        fastest([&mut attributes, &mut state, &mut batch, &mut next]);
+    Ok(Row {
+        name: case.name.clone(),
+        checks,
+        answers,
+        by_crate: attributes.min(state),
+        batch,
+        next,
+        wanted: case.wanted[usize::from(!checks)],
+    })
+}
+
+/// Nanoseconds: a fraction where they are few.
+fn shown(nanoseconds: f64) -> String {
+    match nanoseconds {
+        0.0..100.0 => format!("{nanoseconds:.1}"),
+        _ => format!("{nanoseconds:.0}"),
+    }
+}
+
+fn print_plain(rows: &[Row]) {
+    println!(
+        "{:36} {:6} {:>7} {:>8} {:>8} {:>6} {:>8} {:>6}",
+        "ns a tag", "checks", "answers", "crate", "batch", "ratio", "next", "ratio"
+    );
+    for row in rows {
+        println!(
+            "{:36} {:6} {:>7} {:>8} {:>8} {:>6.2} {:>8} {:>6.2}",
+            row.name,
+            row.checks_shown(),
+            row.answers,
+            shown(row.by_crate),
+            shown(row.batch),
+            row.batch_ratio(),
+            shown(row.next),
+            row.next_ratio()
+        );
+    }
+}
+
+fn print_markdown(rows: &[Row]) {
+    println!("| ns a tag | Checks | Answers | Crate | Batch | Ratio | `next` | Ratio |");
+    println!("|---|---|--:|--:|--:|--:|--:|--:|");
+    for row in rows {
+        println!(
+            "| {} | {} | {} | {} | {} | {:.2} | {} | {:.2} |",
+            row.name,
+            row.checks_shown(),
+            row.answers,
+            shown(row.by_crate),
+            shown(row.batch),
+            row.batch_ratio(),
+            shown(row.next),
+            row.next_ratio()
+        );
+    }
+}
+
+/// Says which wanted ratios are missed; whether none is.
+fn all_met(rows: &[Row]) -> bool {
+    let missed: Vec<String> = rows.iter().filter_map(Row::missed).collect();
+    let wanted = rows.iter().filter(|row| row.wanted.is_some()).count();
+    for line in &missed {
+        println!("{line}");
+    }
+    println!(
+        "{} of {wanted} wanted ratios are met",
+        wanted - missed.len()
+    );
+    missed.is_empty()
+}
+
+fn measure_all() -> Result<Vec<Row>, String> {
+    let mut rows = Vec::new();
+    for checks in [true, false] {
+        for case in cases() {
+            rows.push(measure(&case, checks)?);
+        }
+    }
+    Ok(rows)
+}
+
+fn main() -> ExitCode {
+    let arguments: Vec<String> = std::env::args().skip(1).collect();
+    let known = |argument: &String| argument == "--check" || argument == "--markdown";
+    if !arguments.iter().all(known) {
+        eprintln!("usage: iterator [--check] [--markdown]");
+        return ExitCode::FAILURE;
+    }
+    let asked = |option: &str| arguments.iter().any(|argument| argument == option);
+    let rows = match measure_all() {
+        Ok(rows) => rows,
+        Err(difference) => {
+            eprintln!("iterator: {difference}");
+            return ExitCode::FAILURE;
+        }
+    };
+    println!(
+        "XML mode. Each time is the least of {ROUNDS} rounds, all ways in turn. Ratio: how many times \
+         the crate's speed.\n"
+    );
+    match asked("--markdown") {
+        true => print_markdown(&rows),
+        false => print_plain(&rows),
+    }
+    if asked("--check") {
+        println!();
+        return if all_met(&rows) {
+            ExitCode::SUCCESS
+        } else {
+            ExitCode::FAILURE
+        };
+    }
+    ExitCode::SUCCESS
+}

@@ -1,0 +1,700 @@
+//! Holds the library's resolver against the crate's own.
+//!
+//! After every call: the answer with its numbers, the whole lent memory (text, records, level, limit,
+//! and zeros behind them), both listings from their first place to their end, and a set of names
+//! resolved as element, as attribute and by their prefix alone. What the crate decides is taken from
+//! the crate. The added refusals are decided here by document 01's sentences: 18 and 19 where the
+//! crate adds what the tables have no room for, 20 from the state that is given. A drawn run of calls
+//! is compared up to the first of them.
+//!
+//! Not compared: numbers of the detail that an answer doesn't have, and a level above 65,535, which
+//! the crate can't hold.
+//!
+//! Usage: `scopes [--whole]`. Status 0 and counts where all agrees, status 1 and the first difference
+//! with the calls that led to it where it doesn't.
+
+#[allow(dead_code)]
+#[path = "../oracle/src/cases.rs"]
+mod cases;
+
+#[path = "../oracle/src/declarations.rs"]
+mod declarations;
+#[path = "scopes/drawn.rs"]
+mod drawn;
+#[path = "../oracle/src/due.rs"]
+mod due;
+#[path = "scopes/lent.rs"]
+mod lent;
+
+use cases::Lcg;
+use declarations::{PREFIXES, Tags, VALUES, XML_URI, XMLNS_URI};
+use drawn::{FILLING, MIXED, NAMES, Shape, change, drawn_call};
+use due::{RECORDS, Shown, TEXT, Wanted, listing, resolved_wanted};
+use lent::{BUILT_IN, BUILT_IN_TEXT, Call, DEEPEST, LIMIT, Scope, UNTOUCHED, WRONG_LENGTH, cut};
+use oracle::scopes;
+use oracle::{NamespaceResolver, QName};
+use std::collections::BTreeSet;
+use std::process::ExitCode;
+
+const SEED: u64 = 42_005;
+
+#[derive(Default)]
+struct Tally {
+    runs: usize,
+    calls: usize,
+    refusals: usize,
+    added: usize,
+    resolved: usize,
+    listed: usize,
+}
+
+impl Tally {
+    fn line(&self, what: &str) -> String {
+        format!(
+            "{what}: {} runs, {} calls compared ({} refused, {} by an added refusal), {} names \
+             resolved, {} bindings listed",
+            self.runs, self.calls, self.refusals, self.added, self.resolved, self.listed
+        )
+    }
+
+    fn add(&mut self, other: &Tally) {
+        self.runs += other.runs;
+        self.calls += other.calls;
+        self.refusals += other.refusals;
+        self.added += other.added;
+        self.resolved += other.resolved;
+        self.listed += other.listed;
+    }
+}
+
+/// Both resolvers side by side, with the calls that led to where they are.
+struct Pair<'t> {
+    ours: Scope,
+    theirs: NamespaceResolver,
+    calls: Vec<String>,
+    lcg: Lcg,
+    tally: &'t mut Tally,
+}
+
+impl<'t> Pair<'t> {
+    /// Both fresh. `seed` decides at which places listings are asked beside their first.
+    fn fresh(seed: u64, tally: &'t mut Tally) -> Result<Self, String> {
+        let mut pair = Pair::of(
+            Scope::unwritten(),
+            NamespaceResolver::default(),
+            seed,
+            tally,
+        );
+        pair.make(Call::Fresh)?;
+        Ok(pair)
+    }
+
+    fn of(ours: Scope, theirs: NamespaceResolver, seed: u64, tally: &'t mut Tally) -> Self {
+        tally.runs += 1;
+        Pair {
+            ours,
+            theirs,
+            calls: Vec::new(),
+            lcg: Lcg::new(seed),
+            tally,
+        }
+    }
+
+    /// A difference, with the last calls that led to it.
+    fn error(&self, difference: &str) -> String {
+        let from = self.calls.len().saturating_sub(12);
+        let mut lines = vec![difference.to_string()];
+        if from > 0 {
+            lines.push(format!("after {from} calls"));
+        }
+        lines.extend_from_slice(&self.calls[from..]);
+        lines.join("\n  ")
+    }
+
+    /// One answer of the library, held against what is due.
+    fn ask(&mut self, call: &Call, wanted: &Wanted) -> Result<(), String> {
+        let mut detail = vec![UNTOUCHED; call.detail_len()];
+        let code = call.ours(&mut self.ours, &mut detail);
+        let numbers = detail.get(..wanted.detail.len()).unwrap_or_default();
+        if code == wanted.code && numbers == wanted.detail {
+            return Ok(());
+        }
+        Err(self.error(&format!(
+            "{}: ours {code} {numbers:?}, wanted {} {:?}",
+            call.shown(),
+            wanted.code,
+            wanted.detail
+        )))
+    }
+
+    /// A call that changes both, and everything that can be seen of them after it. The result is its
+    /// code.
+    fn make(&mut self, call: Call) -> Result<usize, String> {
+        let code = self.make_alone(call)?;
+        self.hold_lookups()?;
+        Ok(code)
+    }
+
+    /// The same without lookups and listings: for calls by the thousand that lead somewhere.
+    fn make_alone(&mut self, call: Call) -> Result<usize, String> {
+        self.calls.push(call.shown());
+        let wanted = call.theirs(&mut self.theirs).map_err(|e| self.error(&e))?;
+        self.tally.calls += 1;
+        self.tally.refusals += usize::from(wanted.code != 0);
+        self.tally.added += usize::from(wanted.is_added());
+        self.ask(&call, &wanted)?;
+        self.hold_state()?;
+        Ok(wanted.code)
+    }
+
+    /// A call whose code document 01 states.
+    fn expect(&mut self, call: Call, code: usize) -> Result<(), String> {
+        let got = self.make(call)?;
+        self.stated("the answer", got, code)
+    }
+
+    /// A number that document 01 states: both sides have it already, or the comparison has failed.
+    fn stated(&self, what: &str, got: usize, stated: usize) -> Result<(), String> {
+        if got == stated {
+            return Ok(());
+        }
+        Err(self.error(&format!(
+            "{what} is {got} on both sides, where document 01 states {stated}"
+        )))
+    }
+
+    fn hold_state(&self) -> Result<(), String> {
+        match self.ours.difference(&Scope::of(&self.theirs)) {
+            None => Ok(()),
+            Some(difference) => Err(self.error(&difference)),
+        }
+    }
+
+    fn hold_lookups(&mut self) -> Result<(), String> {
+        let mut names: Vec<String> = NAMES.iter().map(|name| name.to_string()).collect();
+        let drawn = self.lcg.below(PREFIXES.len());
+        names.push(format!("{}:a", PREFIXES[drawn]));
+        // The prefix of some record, whatever it is.
+        let records = scopes::records(&self.theirs);
+        let record = &records[self.lcg.below(records.len())];
+        let prefix = &scopes::text(&self.theirs)[record.start..record.start + record.prefix_len];
+        names.push(format!("{prefix}:a"));
+        for name in &names {
+            self.hold_name(name)?;
+        }
+        for prefix in PREFIXES.iter().filter(|prefix| !prefix.contains(':')) {
+            self.hold_prefix(Some(prefix), &format!("{prefix}:"))?;
+        }
+        self.hold_prefix(None, "a")?;
+        self.hold_bindings()?;
+        for level in self.telling_levels() {
+            self.hold_bindings_of(level)?;
+        }
+        self.hold_state()
+    }
+
+    /// `resolve` both ways, and the crate's two names for it.
+    fn hold_name(&mut self, name: &str) -> Result<(), String> {
+        for default in [true, false] {
+            let (resolved, _) = self.theirs.resolve(QName(name), default);
+            let (named, _) = match default {
+                true => self.theirs.resolve_element(QName(name)),
+                false => self.theirs.resolve_attribute(QName(name)),
+            };
+            if resolved != named {
+                return Err(self.error(&format!("the crate resolves |{}| in two ways", cut(name))));
+            }
+            let wanted = resolved_wanted(&self.theirs, &resolved);
+            self.tally.resolved += 1;
+            self.ask(&Call::Resolve(name.to_string(), default), &wanted)?;
+        }
+        Ok(())
+    }
+
+    /// `resolve_prefix`, asked of the library by a name that has this prefix.
+    fn hold_prefix(&mut self, prefix: Option<&str>, name: &str) -> Result<(), String> {
+        for default in [true, false] {
+            let resolved = scopes::resolve_prefix(&self.theirs, prefix, default);
+            let wanted = resolved_wanted(&self.theirs, &resolved);
+            self.tally.resolved += 1;
+            self.ask(&Call::Resolve(name.to_string(), default), &wanted)?;
+        }
+        Ok(())
+    }
+
+    /// Every level that has a record, the present one and those around it, and a drawn one.
+    fn telling_levels(&mut self) -> BTreeSet<u16> {
+        let level = self.theirs.level();
+        let records = scopes::records(&self.theirs);
+        let mut levels: BTreeSet<u16> = records.iter().map(|record| record.level).collect();
+        let drawn = self.lcg.below(usize::from(level) + 1) as u16;
+        let around = [level.saturating_sub(1), level, level.saturating_add(1)];
+        levels.extend([0, drawn, DEEPEST].into_iter().chain(around));
+        levels
+    }
+
+    fn hold_bindings(&mut self) -> Result<(), String> {
+        let listed = listing(&self.theirs, self.theirs.bindings());
+        self.hold_listing(&listed, Call::Binding)
+    }
+
+    fn hold_bindings_of(&mut self, level: u16) -> Result<(), String> {
+        let listed = listing(&self.theirs, self.theirs.bindings_of(level));
+        self.hold_listing(&listed, |place| Call::BindingOf(level, place))
+    }
+
+    /// A listing from place 0 to its end, each answer from the place that the one before left; then
+    /// from places around the ends of the table and from drawn ones.
+    fn hold_listing(
+        &mut self,
+        listed: &[Shown],
+        call: impl Fn(usize) -> Call,
+    ) -> Result<(), String> {
+        let end = Wanted::new(0, &[]);
+        let mut place = 0;
+        for shown in listed {
+            self.ask(&call(place), &shown.answer)?;
+            place = shown.index + 1;
+        }
+        self.tally.listed += listed.len();
+        self.ask(&call(place), &end)?;
+        let count = scopes::records(&self.theirs).len();
+        let drawn = [(); 2].map(|()| self.lcg.below(count + 2));
+        let places = [1, 2, count - 1, count, count + 1, RECORDS, usize::MAX];
+        for place in places.into_iter().chain(drawn) {
+            let shown = listed.iter().find(|shown| shown.index >= place);
+            self.ask(&call(place), shown.map_or(&end, |shown| &shown.answer))?;
+        }
+        Ok(())
+    }
+}
+
+/// How much is run. The bounded part takes less than a minute.
+struct Extent {
+    runs: usize,
+    filled: usize,
+    bad: usize,
+}
+
+const BOUNDED: Extent = Extent {
+    runs: 300,
+    filled: 6,
+    bad: 4_000,
+};
+const WHOLE: Extent = Extent {
+    runs: 6_000,
+    filled: 80,
+    bad: 60_000,
+};
+
+/// The rows of document 01 that speak of a resolver, with the numbers they state.
+fn stated_rows(_: &Extent, tally: &mut Tally) -> Result<(), String> {
+    let mut pair = Pair::fresh(SEED, tally)?;
+    pair.stated("text used", pair.ours.head[0], BUILT_IN_TEXT)?;
+    pair.stated("the limit", pair.ours.head[3], LIMIT)?;
+    pair.expect(Call::push(" xmlns=\"u\" xmlns:p=\"v\""), 0)?;
+    pair.stated("text used", pair.ours.head[0], 76)?;
+    pair.expect(Call::push(" xmlns:p=\"\""), 0)?;
+    pair.expect(Call::Pop, 0)?;
+    pair.expect(Call::Pop, 0)?;
+    pair.stated("text used", pair.ours.head[0], BUILT_IN_TEXT)?;
+    pair.expect(Call::Pop, 0)?;
+    pair.expect(Call::push(" xmlns:=\"u\""), 0)?;
+    pair.expect(Call::Pop, 0)?;
+    let refused = " xmlns:p=\"v\" xmlns:xmlns=\"w\" xmlns:q=\"z\"";
+    pair.expect(Call::push(refused), 13)?;
+    pair.stated("the level", pair.ours.head[2], 1)?;
+    pair.expect(Call::Pop, 0)?;
+    pair.expect(Call::push(" xmlns:p=\"v\" x xmlns:q=\"w\""), 0)?;
+    // A tag is read with checks off: the same key again declares again.
+    pair.expect(Call::push(" xmlns:p=\"v\" xmlns:p=\"w\""), 0)?;
+    reserved(&mut pair)
+}
+
+/// Every prefix with every value, as `add` and as `push`, also where the limit leaves no room.
+fn reserved(pair: &mut Pair) -> Result<(), String> {
+    for limit in [usize::MAX, 0] {
+        pair.make(Call::SetLimit(limit))?;
+        for value in VALUES {
+            for prefix in PREFIXES {
+                pair.make(Call::SetLevel(0))?;
+                pair.make(Call::add(prefix, value))?;
+                pair.make(Call::push(&format!("xmlns:{prefix}='{value}'")))?;
+            }
+            pair.make(Call::SetLevel(0))?;
+            pair.make(Call::Add(None, value.to_string()))?;
+            pair.make(Call::push(&format!("xmlns = \"{value}\"")))?;
+            pair.make(Call::Fresh)?;
+            pair.make(Call::SetLimit(limit))?;
+        }
+    }
+    Ok(())
+}
+
+/// 128 bindings and the 129th, by `add` and in one tag; limits above and below what is in use; `xml`
+/// bound to its own URI where the limit is reached.
+fn limits(_: &Extent, tally: &mut Tally) -> Result<(), String> {
+    let mut pair = Pair::fresh(SEED + 1, tally)?;
+    for index in 0..LIMIT {
+        let code = pair.make_alone(Call::add(&format!("p{index}"), "u"))?;
+        pair.stated("the answer", code, 0)?;
+    }
+    pair.expect(Call::add("p", "u"), 16)?;
+    pair.expect(Call::Add(None, String::new()), 16)?;
+    pair.expect(Call::add("xml", XML_URI), 0)?;
+    pair.expect(Call::add("xml", "u"), 12)?;
+    pair.expect(Call::push("xmlns:xml='u'"), 12)?;
+    pair.expect(
+        Call::push(&format!("xmlns:xml='{XML_URI}' xmlns:q='u'")),
+        16,
+    )?;
+    pair.expect(Call::SetLimit(LIMIT + 1), 0)?;
+    pair.expect(Call::push("xmlns:q='u' xmlns:r='v'"), 16)?;
+    pair.expect(Call::SetLimit(3), 0)?;
+    pair.stated("the record count", pair.ours.head[1], BUILT_IN + LIMIT + 1)?;
+    pair.expect(Call::add("p", "u"), 16)?;
+    pair.expect(Call::SetLevel(0), 0)?;
+
+    pair.make(Call::Fresh)?;
+    let tag: String = (0..=LIMIT)
+        .map(|index| format!(" xmlns:p{index}='u'"))
+        .collect();
+    pair.expect(Call::push(&tag), 16)?;
+    pair.stated("the record count", pair.ours.head[1], BUILT_IN + LIMIT)?;
+    pair.expect(Call::Pop, 0)?;
+    pair.expect(Call::push(&tag[..tag.len() - " xmlns:p128='u'".len()]), 0)?;
+    pair.expect(Call::add("p", "u"), 16)
+}
+
+/// The deepest level, reached by one call and by one push after another, and the push past it.
+fn depth(_: &Extent, tally: &mut Tally) -> Result<(), String> {
+    let mut pair = Pair::fresh(SEED + 2, tally)?;
+    pair.expect(Call::SetLevel(DEEPEST - 1), 0)?;
+    pair.expect(Call::push("xmlns:p='u'"), 0)?;
+    pair.expect(Call::push("xmlns:p='v'"), 17)?;
+    pair.expect(Call::push("xmlns:xmlns='v'"), 17)?;
+    pair.expect(Call::add("q", "w"), 0)?;
+    pair.expect(Call::Pop, 0)?;
+    pair.stated("text used", pair.ours.head[0], BUILT_IN_TEXT)?;
+    pair.make(Call::Fresh)?;
+    pair.make(Call::SetLimit(usize::MAX))?;
+    for level in 1..=400 {
+        pair.make_alone(Call::push("xmlns='u'"))?;
+        if level % 100 == 0 {
+            pair.hold_lookups()?;
+        }
+    }
+    pair.expect(Call::SetLevel(DEEPEST), 0)?;
+    pair.expect(Call::push(""), 17)?;
+    pair.expect(Call::SetLevel(200), 0)?;
+    pair.stated("the record count", pair.ours.head[1], BUILT_IN + 200)?;
+    pair.expect(Call::SetLevel(0), 0)
+}
+
+/// Every byte of text, and one more: 19. Room that a pop frees is used again.
+fn text_room(_: &Extent, tally: &mut Tally) -> Result<(), String> {
+    let mut pair = Pair::fresh(SEED + 3, tally)?;
+    let room = TEXT - BUILT_IN_TEXT;
+    for (prefix, len) in [
+        ("p", room),
+        ("", room + 1),
+        ("pqr", room - 2),
+        ("p", usize::from(u16::MAX)),
+    ] {
+        pair.expect(Call::add(prefix, &"u".repeat(len)), 19)?;
+        pair.expect(
+            Call::push(&format!("xmlns:{prefix}='{}'", "u".repeat(len))),
+            19,
+        )?;
+        pair.expect(Call::Pop, 0)?;
+    }
+    for prefix in ["p", "", "pqr"] {
+        let value = "u".repeat(room - prefix.len());
+        pair.expect(Call::push(&format!("xmlns:{prefix}=\"{value}\"")), 0)?;
+        pair.stated("text used", pair.ours.head[0], TEXT)?;
+        pair.expect(Call::add("", ""), 0)?;
+        pair.expect(Call::Add(None, String::new()), 0)?;
+        pair.expect(Call::add("p", ""), 19)?;
+        pair.expect(Call::Add(None, "u".to_string()), 19)?;
+        pair.expect(Call::add("xml", XML_URI), 0)?;
+        pair.expect(Call::add("q", XML_URI), 14)?;
+        pair.expect(Call::add("q", XMLNS_URI), 15)?;
+        pair.expect(Call::push("xmlns='' xmlns:q='' xmlns:xml='u'"), 19)?;
+        pair.expect(Call::SetLimit(1), 0)?;
+        pair.expect(Call::add("p", "u"), 16)?;
+        pair.expect(Call::SetLimit(LIMIT), 0)?;
+        pair.expect(Call::SetLevel(1), 0)?;
+        pair.expect(Call::SetLevel(0), 0)?;
+        pair.stated("text used", pair.ours.head[0], BUILT_IN_TEXT)?;
+    }
+    Ok(())
+}
+
+/// The last of 1,026 records, and the next: 18. It comes behind 12 to 16, and before 19.
+fn record_room(_: &Extent, tally: &mut Tally) -> Result<(), String> {
+    let mut pair = Pair::fresh(SEED + 4, tally)?;
+    let own = RECORDS - BUILT_IN;
+    pair.expect(Call::SetLimit(usize::MAX), 0)?;
+    for index in 0..own - 1 {
+        pair.make_alone(Call::add(&format!("p{}", index % 700), "u"))?;
+    }
+    pair.expect(Call::push("xmlns:q='v' xmlns:r='w'"), 18)?;
+    pair.stated("the record count", pair.ours.head[1], RECORDS)?;
+    pair.expect(Call::add("p", "u"), 18)?;
+    pair.expect(Call::Add(None, String::new()), 18)?;
+    pair.expect(Call::add("p", &"u".repeat(TEXT)), 18)?;
+    pair.expect(Call::add("xml", XML_URI), 0)?;
+    pair.expect(Call::add("xml", "u"), 12)?;
+    pair.expect(Call::add("xmlns", XMLNS_URI), 13)?;
+    pair.expect(Call::add("p", XML_URI), 14)?;
+    pair.expect(Call::SetLimit(own), 0)?;
+    pair.expect(Call::add("p", "u"), 16)?;
+    pair.expect(Call::SetLimit(own + 1), 0)?;
+    pair.expect(Call::add("p", "u"), 18)?;
+    pair.expect(Call::Pop, 0)?;
+    pair.stated("the record count", pair.ours.head[1], RECORDS - 1)?;
+    pair.expect(Call::push("xmlns:q=''"), 0)?;
+    pair.expect(Call::SetLevel(0), 0)?;
+    let filler = "u".repeat(TEXT - pair.ours.head[0]);
+    pair.expect(Call::Add(None, filler), 0)?;
+    pair.expect(Call::Add(None, "u".to_string()), 18)
+}
+
+/// A call of each kind. Each would change or answer something on the resolver that it is made on.
+fn call_of_each_kind() -> Vec<Call> {
+    vec![
+        Call::add("q", "w"),
+        Call::add("xmlns", "w"),
+        Call::Add(None, "w".to_string()),
+        Call::push("xmlns:q='w'"),
+        Call::push("xmlns:xmlns='w'"),
+        Call::Pop,
+        Call::SetLevel(0),
+        Call::SetLevel(DEEPEST),
+        Call::Resolve("p:a".to_string(), true),
+        Call::Resolve("a".to_string(), false),
+        Call::Binding(0),
+        Call::Binding(usize::MAX),
+        Call::BindingOf(0, 0),
+        Call::BindingOf(1, RECORDS),
+    ]
+}
+
+/// A call that has to answer `code` and to write nothing.
+fn hold_unwritten(scope: &Scope, call: &Call, code: usize, detail: usize) -> Result<(), String> {
+    let mut ours = scope.clone();
+    let mut numbers = vec![UNTOUCHED; detail];
+    let got = call.ours(&mut ours, &mut numbers);
+    if got == code && ours == *scope {
+        return Ok(());
+    }
+    let written = if ours == *scope { "" } else { ", and wrote" };
+    Err(format!(
+        "{}: ours {got}{written}, wanted {code}",
+        call.shown()
+    ))
+}
+
+/// Each lent array one shorter and one longer than it has to be.
+fn wrong_lengths(_: &Extent, tally: &mut Tally) -> Result<(), String> {
+    fn resize<T: Clone + Default>(array: &mut Vec<T>, longer: bool) {
+        let len = if longer {
+            array.len() + 1
+        } else {
+            array.len() - 1
+        };
+        array.resize(len, T::default());
+    }
+    let mut pair = Pair::fresh(SEED + 5, tally)?;
+    pair.make(Call::push("xmlns='u' xmlns:p='v'"))?;
+    let good = pair.ours.clone();
+    let mut calls = call_of_each_kind();
+    calls.push(Call::Fresh);
+    for (array, longer) in (0..7).flat_map(|array| [(array, false), (array, true)]) {
+        for call in &calls {
+            let (mut scope, mut detail) = (good.clone(), call.detail_len());
+            match array {
+                0 => resize(&mut scope.text, longer),
+                1 => resize(&mut scope.starts, longer),
+                2 => resize(&mut scope.prefix_lens, longer),
+                3 => resize(&mut scope.value_lens, longer),
+                4 => resize(&mut scope.levels, longer),
+                5 => resize(&mut scope.head, longer),
+                _ if detail == 0 => continue,
+                _ => detail = if longer { detail + 1 } else { detail - 1 },
+            }
+            let what = [
+                "text",
+                "starts",
+                "prefix lengths",
+                "value lengths",
+                "levels",
+                "head",
+                "detail",
+            ];
+            hold_unwritten(&scope, call, WRONG_LENGTH, detail).map_err(|difference| {
+                let length = if longer { "longer" } else { "shorter" };
+                format!("{} one {length}: {difference}", what[array])
+            })?;
+            tally.calls += 1;
+        }
+    }
+    Ok(())
+}
+
+/// Calls drawn on fresh resolvers, up to the first added refusal.
+fn hold_drawn(seed: u64, shape: &Shape, tally: &mut Tally) -> Result<(), String> {
+    let mut lcg = Lcg::new(seed);
+    let mut pair = Pair::fresh(seed, tally)?;
+    if !shape.limited {
+        pair.make(Call::SetLimit(usize::MAX))?;
+    }
+    for _ in 0..shape.calls {
+        let call = drawn_call(&mut lcg, &pair.theirs, shape);
+        if matches!(pair.make(call)?, 18..=20) {
+            break;
+        }
+    }
+    Ok(())
+}
+
+fn drawn(extent: &Extent, tally: &mut Tally) -> Result<(), String> {
+    for run in 0..extent.runs {
+        let shape = Shape {
+            calls: 40,
+            tags: Tags {
+                attributes: [0, 2, 4, 12][run % 4],
+                value_len: 8,
+                telling: 60,
+                damaged: [0, 0, 10][run % 3],
+            },
+            deep: run % 5 == 0,
+            limited: run % 2 == 0,
+            mix: MIXED,
+        };
+        hold_drawn(SEED + 100 + run as u64, &shape, tally)?;
+        if run % 200 == 199 {
+            eprintln!("scopes: drawn calls: {} calls so far", tally.calls);
+        }
+    }
+    Ok(())
+}
+
+/// Runs that fill the records or the text.
+fn filled(extent: &Extent, tally: &mut Tally) -> Result<(), String> {
+    for run in 0..extent.filled {
+        let shape = Shape {
+            calls: 200,
+            tags: Tags {
+                attributes: if run % 2 == 0 { 80 } else { 12 },
+                value_len: if run % 2 == 0 { 3 } else { 2_000 },
+                telling: 1,
+                damaged: 0,
+            },
+            deep: false,
+            limited: false,
+            mix: FILLING,
+        };
+        hold_drawn(SEED + 100_000 + run as u64, &shape, tally)?;
+        eprintln!("scopes: filled tables: {} calls so far", tally.calls);
+    }
+    Ok(())
+}
+
+/// Good resolvers with one or two changes by hand: 20 from every call, with nothing written, exactly
+/// where document 01's form is left; where it isn't, the crate's resolver of the same content decides.
+fn changed_by_hand(extent: &Extent, tally: &mut Tally) -> Result<(), String> {
+    let mut lcg = Lcg::new(SEED + 6);
+    let shape = Shape {
+        calls: 0,
+        tags: Tags {
+            attributes: 5,
+            value_len: 6,
+            telling: 30,
+            damaged: 0,
+        },
+        deep: false,
+        limited: true,
+        mix: MIXED,
+    };
+    for round in 0..extent.bad {
+        let mut resolver = NamespaceResolver::default();
+        for _ in 0..lcg.below(6) {
+            drawn_call(&mut lcg, &resolver, &shape).theirs(&mut resolver)?;
+        }
+        let mut scope = Scope::of(&resolver);
+        let changes = 1 + lcg.below(2);
+        (0..changes).for_each(|_| change(&mut lcg, &mut scope));
+        if scope.is_bad() {
+            hold_bad(&scope, tally)?;
+        } else if let Some(theirs) = scope.theirs() {
+            let seed = SEED + round as u64;
+            let mut pair = Pair::of(scope, theirs, seed, tally);
+            pair.calls
+                .push(format!("a good resolver made by hand, round {round}"));
+            pair.hold_lookups()?;
+            let call = drawn_call(&mut lcg, &pair.theirs, &shape);
+            pair.make(call)?;
+        }
+    }
+    Ok(())
+}
+
+fn hold_bad(scope: &Scope, tally: &mut Tally) -> Result<(), String> {
+    tally.runs += 1;
+    for call in call_of_each_kind() {
+        tally.calls += 1;
+        tally.refusals += 1;
+        tally.added += 1;
+        hold_unwritten(scope, &call, 20, call.detail_len()).map_err(|difference| {
+            let [used, count, level, limit] = [0, 1, 2, 3].map(|index| scope.head[index]);
+            let records: Vec<_> = (0..count.clamp(3, 9)).map(|i| scope.record(i)).collect();
+            format!(
+                "{difference}\n  on a resolver that is not of document 01's form: text used {used}, \
+                 {count} records, level {level}, limit {limit}, the first records {records:?}"
+            )
+        })?;
+    }
+    Ok(())
+}
+
+type Part = fn(&Extent, &mut Tally) -> Result<(), String>;
+
+const PARTS: [(&str, Part); 9] = [
+    ("document 01's rows", stated_rows),
+    ("limits", limits),
+    ("depth", depth),
+    ("text full", text_room),
+    ("records full", record_room),
+    ("wrong lengths", wrong_lengths),
+    ("drawn calls", drawn),
+    ("filled tables", filled),
+    ("changed by hand", changed_by_hand),
+];
+
+fn main() -> ExitCode {
+    let arguments: Vec<String> = std::env::args().skip(1).collect();
+    let extent = match &arguments[..] {
+        [] => BOUNDED,
+        [whole] if whole == "--whole" => WHOLE,
+        _ => {
+            eprintln!("usage: scopes [--whole]");
+            return ExitCode::FAILURE;
+        }
+    };
+    let mut all = Tally::default();
+    for (what, part) in PARTS {
+        let mut tally = Tally::default();
+        if let Err(difference) = part(&extent, &mut tally) {
+            println!(
+                "scopes: difference in {what}, after {} calls: {difference}",
+                tally.calls
+            );
+            return ExitCode::FAILURE;
+        }
+        println!("{}", tally.line(what));
+        all.add(&tally);
+    }
+    println!("{}, no difference", all.line("scopes"));
+    ExitCode::SUCCESS
+}
