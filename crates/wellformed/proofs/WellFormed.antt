@@ -109,6 +109,13 @@ module _ (pre : List ℕ) (b : Body) where
   well-formed-parts fine few distinct html checks =
       parts-of (body-lacks b fine) (answersOf tag (opened (length pre) html checks)) (well-formed-reads pre b fine few distinct html checks .0)
 
+  -- The same of the answers that any number of attributes is due, whatever their names.
+  pub due-parts : WellFormed b →
+      let s = pre ++ textOf b in
+      let answers = attributesOf (length pre) (b .attributes) in
+      (map (keyPart s) answers ≡ map (λ (a : Attribute). a .name) (b .attributes)) × (map (valuePart s) answers ≡ map (λ (a : Attribute). a .value) (b .attributes))
+  due-parts fine = parts-of (body-lacks b fine) (attributesOf (length pre) (b .attributes)) refl
+
 -- The productions are not ambiguous: two bodies of one text have the same names and the same values, in order, namely
 -- those that the iterator finds in it.
 module _ (b d : Body) (fine : WellFormed b) (good : WellFormed d) (same : textOf b ≡ textOf d) where

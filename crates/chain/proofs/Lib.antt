@@ -1,0 +1,6 @@
+pub mod Bound
+pub mod Table
+pub mod Tag
+pub mod Chain
+pub mod Plain
+pub mod Examples

@@ -1,0 +1,16 @@
+-- `lookup::least` meets its contract.
+use borrow.Author.Tests.{lt-ltb, le-ltb}
+use Rattle.lookup.specs.Many.{leastOf}
+use Rattle.lookup.proofs.least.Statement.{statement}
+use Rattle.lookup.proofs.least.Tie as tie
+
+returns : tie.Need-returns
+unfolding leastOf
+returns c = rw (lt-ltb _ _ (c .if1 .taken))
+
+returns-2 : tie.Need-returns-2
+unfolding leastOf
+returns-2 c = rw (le-ltb _ _ (c .if1 .left))
+
+pub least-spec : {M : Type 1} → statement M
+least-spec = tie.close (tie.spec returns returns-2)

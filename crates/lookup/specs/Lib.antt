@@ -1,0 +1,4 @@
+pub mod Last
+pub mod Lookup
+pub mod Listing
+pub mod Many

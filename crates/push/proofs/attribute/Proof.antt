@@ -1,0 +1,25 @@
+-- `push::attribute` meets its contract: the parts of the key are those that are meant.
+use mathlib.Core.Path.{_∙_}
+use borrow.Author.Needs.{needs}
+use Rattle.push.specs.Push.{attributeOf}
+use Rattle.push.proofs.attribute.Statement.{statement}
+use Rattle.push.proofs.attribute.Tie as tie
+
+as-namespace-binding-requires : tie.Need-as-namespace-binding-requires
+as-namespace-binding-requires c κs = search needs
+
+declared-prefix-requires : tie.Need-declared-prefix-requires
+declared-prefix-requires c κs = search needs
+
+start-of-requires : tie.Need-start-of-requires
+start-of-requires c κs = search needs
+
+declare-in-requires : tie.Need-declare-in-requires
+declare-in-requires c κs = c .before .before .before .before .before .before .before .before .before .before .pre
+
+returns : tie.Need-returns
+unfolding attributeOf
+returns c = c .declare-in .ensures ∙ rw (c .before .before .before .before .before .before .start-of .ensures, c .before .before .before .before .before .before .before .declared-prefix .ensures, c .before .before .before .before .before .before .before .before .as-namespace-binding .ensures)
+
+pub attribute-spec : {M : Type 1} → statement M
+attribute-spec = tie.close (tie.spec as-namespace-binding-requires declared-prefix-requires start-of-requires declare-in-requires returns)

@@ -1,0 +1,16 @@
+pub mod Lists
+pub mod Records
+pub mod Bound
+pub mod Kept
+pub mod Declared
+pub mod Valid
+pub mod Twenty
+pub mod Parts
+pub mod Listed
+pub mod Bindings
+pub mod BuiltIn
+pub mod Determine
+pub mod Follow
+pub mod Returns
+pub mod Sums
+pub mod Examples
