@@ -1,10 +1,19 @@
-// What the static library exports, for Rust or C to link: names, and the verdict on a declaration. Each function hands
+// What the static library exports of names and tags, for Rust or C to link. Each function hands
 // its slices on to the crate that has the rule, and answers by a number or a bool; none asks anything of its caller.
 ghost use mathlib.Core.Path.{_≡_};
 ghost use Rattle.name.specs.Split.{colonAt};
 ghost use Rattle.name.specs.Reserved.{isXml, isXmlns};
 ghost use Rattle.name.specs.Declares.{declaresOf, declaresNumber};
 ghost use Rattle.name.specs.Verdict.{verdictOf, verdictNumber};
+ghost use mathlib.Core.List.{_∷_};
+ghost use Prim.Native.Nat.{_≤_};
+ghost use lib.ListN.{length, drop};
+ghost use Rattle.mezzulidda.specs.Reading.{placeFrom, kindOf, positionOf, reading, readBatchOf};
+use attributes::Place;
+use batch::Batch;
+
+// No number of answers.
+const NONE: usize = 18446744073709551615;
 
 // The index of the first colon, or the length where there is none.
 #[no_mangle]
@@ -44,4 +53,86 @@ pub extern "C" fn mz_verdict(name: &[u8], value: &[u8]) -> usize
     ensures { λ r. ⌜ r ≡ verdictNumber (verdictOf (now (name .entry)) (now (value .entry))) ⌝ }
 {
     name::verdict_of(name, value).number()
+}
+
+// Writes three numbers to the beginning of an array that has room for them.
+fn put_three(t: &mut [usize], a: usize, b: usize, c: usize)
+    requires { ⌜ 3 ≤ length (now t) ⌝ }
+    ensures { λ _. ⌜ now (t .exit) ≡ a ∷ b ∷ c ∷ drop 3 (now (t .entry)) ⌝ }
+{
+    t[0] = a;
+    t[1] = b;
+    t[2] = c;
+}
+
+// A place from its kind and its position.
+fn place_from(end: usize, kind: usize, position: usize) -> Place
+    ensures { λ r. ⌜ r ≡ placeFrom end kind position ⌝ }
+{
+    if kind == 0 {
+        return Place::Done;
+    }
+    if kind == 1 {
+        return Place::Next(position);
+    }
+    if kind == 2 {
+        return Place::SkipValue(position);
+    }
+    if kind == 3 {
+        return Place::SkipEqValue(position);
+    }
+    Place::SkipValue(end)
+}
+
+// The kind of a place.
+fn kind_of(place: Place) -> usize
+    ensures { λ r. ⌜ r ≡ kindOf place ⌝ }
+{
+    match place {
+        Place::Done => 0,
+        Place::Next(_) => 1,
+        Place::SkipValue(_) => 2,
+        Place::SkipEqValue(_) => 3,
+    }
+}
+
+// Its position.
+fn position_of(place: Place) -> usize
+    ensures { λ r. ⌜ r ≡ positionOf place ⌝ }
+{
+    match place {
+        Place::Done => 0,
+        Place::Next(o) => o,
+        Place::SkipValue(o) => o,
+        Place::SkipEqValue(o) => o,
+    }
+}
+
+// As many answers of a run as `out` holds, five numbers each: `batch::read_batch`. `state` is the kind of the place (0
+// done, 1 next, 2 skip value, 3 skip from `=`), its position, and the number of recorded keys; it is left as the next
+// call takes it. The result is the number of answers, or the largest number there is where a lent array has another
+// length than it has to have.
+#[no_mangle]
+pub extern "C" fn mz_read_batch<'a>(
+    tag: &[u8],
+    starts: &'a mut [usize],
+    ends: &'a mut [usize],
+    state: &mut [usize],
+    html: bool,
+    checks: bool,
+    out: &mut [usize],
+) -> usize
+    ensures { λ r. ⌜ reading r (now (starts .exit)) (now (ends .exit)) (now (state .exit)) (now (out .exit)) ≡ readBatchOf (now (tag .entry)) (now (starts .entry)) (now (ends .entry)) (now (state .entry)) (now (out .entry)) html checks ⌝ }
+{
+    if state.len() != 3 {
+        return NONE;
+    }
+    let place = place_from(tag.len(), state[0], state[1]);
+    let count = state[2];
+    let batch = batch::read_batch(tag, starts, ends, html, checks, count, place, out);
+    let Batch::Read(n, left, recorded) = batch else {
+        return NONE;
+    };
+    put_three(state, kind_of(left), position_of(left), recorded);
+    n
 }
