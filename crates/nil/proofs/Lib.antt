@@ -1,0 +1,4 @@
+pub mod Turns
+pub mod Among
+pub mod Numbers
+pub mod Rows

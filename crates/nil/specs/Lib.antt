@@ -1,0 +1,2 @@
+pub mod Nil
+pub mod Convert
