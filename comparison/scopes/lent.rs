@@ -18,8 +18,8 @@ pub const UNTOUCHED: usize = 0x5a5a_5a5a;
 /// The library's answer where a lent array has another length than it has to have.
 pub const WRONG_LENGTH: usize = 99;
 
-// Each of the six arrays of a resolver passes as pointer and length, and so does each slice behind
-// them. `head`: text used, record count, level, limit. The result is 0 or a refusal's number, with
+// Each of the five arrays of a resolver passes as its pointer alone, since the library's type fixes its
+// length; `head` and each slice behind it pass as pointer and length. `head`: text used, record count, level, limit. The result is 0 or a refusal's number, with
 // its numbers in `detail`: bounds in the argument or the tag for 12 to 15, the limit for 16, 65,535
 // for 17. `mz_resolve`: 0 unbound, 1 bound, with the URI's bounds in the text, 2 unknown, with the
 // prefix's bounds in the name. `mz_binding`, `mz_binding_of`: 0 the end, 1 a default, 2 a named one,
@@ -29,15 +29,10 @@ macro_rules! declare {
         unsafe extern "C" { $(
             fn $name(
                 text: *mut u8,
-                text_len: usize,
                 starts: *mut usize,
-                starts_len: usize,
                 prefix_lens: *mut usize,
-                prefix_lens_len: usize,
                 value_lens: *mut usize,
-                value_lens_len: usize,
                 levels: *mut u16,
-                levels_len: usize,
                 head: *mut usize,
                 head_len: usize,
                 $($more: $kind),*
@@ -72,20 +67,22 @@ pub struct Scope {
 macro_rules! call {
     ($function:ident, $scope:expr $(, $more:expr)*) => {{
         let scope: &mut Scope = $scope;
-        // SAFETY: each pointer is that of a live slice of the length beside it; what is written is
-        // borrowed mutably, and apart from everything else.
+        let lens = [
+            scope.starts.len(),
+            scope.prefix_lens.len(),
+            scope.value_lens.len(),
+            scope.levels.len(),
+        ];
+        assert!(scope.text.len() == TEXT && lens == [RECORDS; 4]);
+        // SAFETY: each pointer is that of a live slice of the length beside it, or of the length that
+        // was just tested; what is written is borrowed mutably, and apart from everything else.
         unsafe {
             $function(
                 scope.text.as_mut_ptr(),
-                scope.text.len(),
                 scope.starts.as_mut_ptr(),
-                scope.starts.len(),
                 scope.prefix_lens.as_mut_ptr(),
-                scope.prefix_lens.len(),
                 scope.value_lens.as_mut_ptr(),
-                scope.value_lens.len(),
                 scope.levels.as_mut_ptr(),
-                scope.levels.len(),
                 scope.head.as_mut_ptr(),
                 scope.head.len(),
                 $($more),*

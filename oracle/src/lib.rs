@@ -17,8 +17,8 @@ extern crate self as memchr;
 mod encoding;
 mod errors;
 mod escape;
-mod events;
-mod name;
+pub mod events;
+pub mod name;
 pub mod text;
 mod utils;
 

@@ -1,0 +1,188 @@
+//! Makes the same calls on the Rust crate and on quick-xml's own, and holds what they show of each
+//! answer against each other: what a program sees that swaps one for the other.
+//!
+//! Tags and calls are drawn by a fixed sequence. Usage: `swap [RUNS]`. Status: 0 no difference; 101 and
+//! the tag or the calls where there is one.
+
+use std::fmt::Debug;
+
+/// The pieces of which tags are put together.
+const PIECES: [&str; 19] = [
+    "a", "b", "ab", "é", "=", "=", "\"", "'", " ", "\t", "\n", ":", "xmlns", "xmlns:", "='1'",
+    "=\"2\"", " a='1'", " b=x", " c",
+];
+const PREFIXES: [&str; 8] = ["p", "q", "pé", "xml", "xmlns", "", ":", "a:b"];
+const URIS: [&str; 6] = [
+    "u",
+    "v",
+    "",
+    "é",
+    "http://www.w3.org/XML/1998/namespace",
+    "http://www.w3.org/2000/xmlns/",
+];
+const NAMES: [&str; 10] = [
+    "a", "p:a", "q:a", "pé:a", "xml:a", "xmlns:a", ":a", "a:b:c", "z:a", "",
+];
+const LEVELS: u16 = 7;
+/// No tag here has more answers.
+const ANSWERS: usize = 200;
+
+/// A fixed sequence of numbers.
+#[derive(Clone)]
+struct Drawn(u64);
+
+impl Drawn {
+    fn below(&mut self, end: usize) -> usize {
+        self.0 = self
+            .0
+            .wrapping_mul(6_364_136_223_846_793_005)
+            .wrapping_add(1_442_695_040_888_963_407);
+        (self.0 >> 33) as usize % end
+    }
+
+    fn one_of<T: Copy>(&mut self, list: &[T]) -> T {
+        list[self.below(list.len())]
+    }
+
+    fn is_one_in(&mut self, of: usize) -> bool {
+        self.below(of) == 0
+    }
+
+    fn tag(&mut self) -> String {
+        (0..self.below(40)).map(|_| self.one_of(&PIECES)).collect()
+    }
+
+    /// A tag named `t`, mostly of declarations.
+    fn declarations(&mut self) -> String {
+        let mut tag = "t".to_string();
+        for _ in 0..self.below(4) {
+            match self.below(5) {
+                0 => tag.push_str(" x"),
+                1 => tag.push_str(&format!(" xmlns='{}'", self.one_of(&URIS))),
+                _ => {
+                    let (prefix, uri) = (self.one_of(&PREFIXES), self.one_of(&URIS));
+                    tag.push_str(&format!(" xmlns:{prefix}='{uri}'"));
+                }
+            }
+        }
+        tag
+    }
+}
+
+fn shown(answer: impl Debug) -> String {
+    format!("{answer:?}")
+}
+
+// The calls, once for both crates: their types have the same names and are not the same.
+macro_rules! calls_on {
+    ($name:ident) => {
+        mod $name {
+            use super::{ANSWERS, Drawn, LEVELS, NAMES, PREFIXES, URIS, shown};
+            use $name::events::BytesStart;
+            use $name::events::attributes::Attributes;
+            use $name::name::{Namespace, NamespaceResolver, PrefixDeclaration, QName};
+
+            /// Reads a tag to its end, and once more; with checks turned on and off on the way if
+            /// that is drawn.
+            pub fn read(tag: &str, pos: usize, html: bool, drawn: &mut Drawn) -> Vec<String> {
+                let mut attributes = if html {
+                    Attributes::html(tag, pos)
+                } else {
+                    Attributes::new(tag, pos)
+                };
+                let turns = drawn.is_one_in(3);
+                let mut answers = Vec::new();
+                let mut ends = 0;
+                while ends < 2 {
+                    assert!(answers.len() < ANSWERS, "{tag:?} has no end");
+                    if turns && drawn.is_one_in(3) {
+                        attributes.with_checks(drawn.is_one_in(2));
+                    }
+                    let answer = attributes.next();
+                    ends += usize::from(answer.is_none());
+                    answers.push(shown(answer));
+                }
+                answers
+            }
+
+            /// So many calls on a fresh resolver, with all that it tells after each.
+            pub fn resolve(calls: usize, drawn: &mut Drawn) -> Vec<String> {
+                let mut resolver = NamespaceResolver::default();
+                if drawn.is_one_in(3) {
+                    resolver.set_max_namespace_bindings(drawn.below(6));
+                }
+                let mut told = Vec::new();
+                for _ in 0..calls {
+                    told.push(change(&mut resolver, drawn));
+                    tell(&resolver, &mut told);
+                }
+                told
+            }
+
+            fn change(resolver: &mut NamespaceResolver, drawn: &mut Drawn) -> String {
+                match drawn.below(6) {
+                    0 => shown(resolver.pop()),
+                    1 => shown(resolver.set_level(drawn.below(LEVELS.into()) as u16)),
+                    2 => {
+                        let prefix = match drawn.is_one_in(3) {
+                            true => PrefixDeclaration::Default,
+                            false => PrefixDeclaration::Named(drawn.one_of(&PREFIXES)),
+                        };
+                        shown(resolver.add(prefix, Namespace(drawn.one_of(&URIS))))
+                    }
+                    _ => shown(resolver.push(&BytesStart::from_content(drawn.declarations(), 1))),
+                }
+            }
+
+            fn tell(resolver: &NamespaceResolver, told: &mut Vec<String>) {
+                told.push(shown((resolver.level(), resolver.max_namespace_bindings())));
+                for name in NAMES.map(QName) {
+                    told.push(shown(resolver.resolve_element(name)));
+                    told.push(shown(resolver.resolve_attribute(name)));
+                    told.push(shown(resolver.resolve_prefix(name.prefix(), true)));
+                }
+                told.push(shown(resolver.bindings().collect::<Vec<_>>()));
+                for level in 0..LEVELS {
+                    told.push(shown(resolver.bindings_of(level).collect::<Vec<_>>()));
+                }
+            }
+        }
+    };
+}
+calls_on!(mezzulidda);
+calls_on!(oracle);
+
+fn main() {
+    let runs = match std::env::args().nth(1) {
+        Some(word) => word.parse().expect("usage: swap [RUNS]"),
+        None => 20_000,
+    };
+    let mut drawn = Drawn(7);
+    let mut answers = 0;
+    for _ in 0..runs {
+        let tag = drawn.tag();
+        // at a character's start, or past the end
+        let mut pos = drawn.below(tag.len() + 3);
+        while pos < tag.len() && !tag.is_char_boundary(pos) {
+            pos += 1;
+        }
+        let html = drawn.is_one_in(2);
+        let ours = mezzulidda::read(&tag, pos, html, &mut drawn.clone());
+        let theirs = oracle::read(&tag, pos, html, &mut drawn);
+        assert_eq!(ours, theirs, "{tag:?} from {pos}, html: {html}");
+        answers += ours.len();
+    }
+    let (resolvers, calls) = (runs / 500, 50);
+    let mut told = 0;
+    for _ in 0..resolvers {
+        let before = drawn.0;
+        let ours = mezzulidda::resolve(calls, &mut drawn.clone());
+        let theirs = oracle::resolve(calls, &mut drawn);
+        assert_eq!(ours, theirs, "the calls drawn from {before}");
+        told += ours.len();
+    }
+    println!(
+        "swap: {answers} answers of {runs} tags and {told} of {} calls on resolvers, no difference",
+        resolvers * calls
+    );
+}

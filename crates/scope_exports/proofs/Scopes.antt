@@ -1,0 +1,152 @@
+-- The ways in which a call on a resolver comes back over the boundary, each as `changeIn` says it: a wrong length, a level
+-- that is none, and what the call on the arrays left.
+use Prim.Native.Nat.{ℕ, _≤_, _<_}
+use mathlib.Core.Path.{_≡_, refl, sym, ap, _∙_}
+use mathlib.Core.Bool.{Bool, true, false, _&&_, not, false≢true}
+use mathlib.Core.List.{List, [], _∷_}
+use native.Mathlib.Omega.{arith}
+use lib.ListN.{length, getD, set}
+use lib.Dec.{eqb, leb}
+use borrow.Author.Tests.{eq-eqb, ne-eqb, le-leb, lt-leb, eqb-true, not-true, not-false}
+use Rattle.scan.specs.First.{pick}
+use Rattle.table.specs.Table.{TEXT, RECORDS, tables, freshOf}
+use Rattle.table.specs.Changes.{numbersOf, changed}
+use Rattle.table.specs.declared.NamespaceResolver.{NamespaceResolver}
+use Rattle.table.specs.declared.Changed.{Changed}
+use Rattle.table.specs.declared.Answer.{Answer}
+use Rattle.table.specs.declared.Answer.the-variants.{Done, BadResolver}
+use Rattle.push.specs.Push.{DEEPEST}
+use Rattle.scope_exports.specs.Scope.{WRONG, fitsOf, resolverIn, headOf, codeOf, detailOf, Scope, scope, scopeOf, leveled, changeIn, freshIn, Asked, asked, askedOf, askIn, resolvedNumbers, listedNumbers}
+use Rattle.lookup.specs.declared.Resolved.{Resolved}
+use Rattle.lookup.specs.declared.Listed.{Listed}
+
+-- Arrays of two and of four numbers.
+
+pub two-put : (t : List ℕ) (a b : ℕ) → length t ≡ 2 → set (set t 0 a) 1 b ≡ a ∷ b ∷ []
+two-put [] a b h = absurd (omega arith)
+two-put (x ∷ []) a b h = absurd (omega arith)
+two-put (x ∷ y ∷ []) a b h = refl
+two-put (x ∷ y ∷ z ∷ t) a b h = absurd (omega arith)
+
+pub four-put : (t : List ℕ) (a b c d : ℕ) → length t ≡ 4 → set (set (set (set t 0 a) 1 b) 2 c) 3 d ≡ a ∷ b ∷ c ∷ d ∷ []
+four-put [] a b c d h = absurd (omega arith)
+four-put (x ∷ []) a b c d h = absurd (omega arith)
+four-put (x ∷ y ∷ []) a b c d h = absurd (omega arith)
+four-put (x ∷ y ∷ z ∷ []) a b c d h = absurd (omega arith)
+four-put (x ∷ y ∷ z ∷ w ∷ []) a b c d h = refl
+four-put (x ∷ y ∷ z ∷ w ∷ v ∷ t) a b c d h = absurd (omega arith)
+
+four-are : (t : List ℕ) → length t ≡ 4 → t ≡ getD t 0 0 ∷ getD t 1 0 ∷ getD t 2 0 ∷ getD t 3 0 ∷ []
+four-are [] h = absurd (omega arith)
+four-are (x ∷ []) h = absurd (omega arith)
+four-are (x ∷ y ∷ []) h = absurd (omega arith)
+four-are (x ∷ y ∷ z ∷ []) h = absurd (omega arith)
+four-are (x ∷ y ∷ z ∷ w ∷ []) h = refl
+four-are (x ∷ y ∷ z ∷ w ∷ v ∷ t) h = absurd (omega arith)
+
+-- An answer is told by its case.
+pub told-as : (a b : Answer) → a ≡ b → (codeOf (numbersOf b) ≡ codeOf (numbersOf a)) × (detailOf 2 (numbersOf b) ≡ detailOf 2 (numbersOf a))
+told-as a b e = (ap (λ (x : Answer). codeOf (numbersOf x)) (sym e), ap (λ (x : Answer). detailOf 2 (numbersOf x)) (sym e))
+
+and-right : (a b : Bool) → (a && b) ≡ true → b ≡ true
+and-right true b e = e
+and-right false b e = absurd (false≢true e)
+
+module _ (text starts plens vlens levels head : List ℕ) (ok : Bool) (told : ok ≡ fitsOf text starts plens vlens levels head) where
+  unfit : not ok ≡ true → fitsOf text starts plens vlens levels head ≡ false
+  unfit z = sym told ∙ not-true ok z
+
+  fit : not ok ≡ false → fitsOf text starts plens vlens levels head ≡ true
+  fit z = sym told ∙ not-false ok z
+
+  -- arrays that fit: the head has four numbers
+  pub head-four : not ok ≡ false → length head ≡ 4
+  unfolding fitsOf
+  head-four z =
+      eqb-true (length head) 4
+      (and-right (eqb (length levels) RECORDS) _
+      (and-right (eqb (length vlens) RECORDS) _
+      (and-right (eqb (length plens) RECORDS) _
+      (and-right (eqb (length starts) RECORDS) _
+      (and-right (eqb (length text) TEXT) _ (fit z))))))
+
+  pub fresh-refused : not ok ≡ true → scope WRONG text starts plens vlens levels head [] ≡ freshIn text starts plens vlens levels head
+  unfolding freshIn
+  fresh-refused z = rw (unfit z)
+
+  fresh-scope : (r : NamespaceResolver) (w : ℕ) → w ≡ r .level → (head′ : List ℕ) → head′ ≡ r .used ∷ r .count ∷ w ∷ r .limit ∷ [] → scope 0 (r .text) (r .starts) (r .plens) (r .vlens) (r .levels) head′ [] ≡ scopeOf 0 (changed Done r)
+  unfolding scopeOf headOf numbersOf codeOf detailOf
+  fresh-scope r w e head′ h = cc
+
+  pub fresh-left : not ok ≡ false → (r : NamespaceResolver) → r ≡ freshOf → (w : ℕ) → w ≡ r .level → (head′ : List ℕ) → head′ ≡ r .used ∷ r .count ∷ w ∷ r .limit ∷ [] → scope 0 (r .text) (r .starts) (r .plens) (r .vlens) (r .levels) head′ [] ≡ freshIn text starts plens vlens levels head
+  unfolding freshIn
+  fresh-left z r e w ew head′ eh = rw (fit z) (fresh-scope r w ew head′ eh ∙ ap (λ (x : NamespaceResolver). scopeOf 0 (changed Done x)) e)
+
+  module _ (n : ℕ) (f : NamespaceResolver → Changed) (detail : List ℕ) where
+    pub arrays-refused : not ok ≡ true → scope WRONG text starts plens vlens levels head detail ≡ changeIn n f text starts plens vlens levels head detail
+    unfolding changeIn
+    arrays-refused z = rw (unfit z)
+
+    pub detail-refused : not ok ≡ false → (length detail ≡ n → ⊥) → scope WRONG text starts plens vlens levels head detail ≡ changeIn n f text starts plens vlens levels head detail
+    unfolding changeIn
+    detail-refused z h = rw (fit z, ne-eqb (length detail) n h)
+
+    level-scope : length head ≡ 4 → (detail′ : List ℕ) → detail′ ≡ detailOf n (20 ∷ []) → scope 20 text starts plens vlens levels head detail′ ≡ scopeOf n (changed BadResolver (resolverIn text starts plens vlens levels head))
+    unfolding scopeOf headOf numbersOf codeOf resolverIn
+    level-scope h detail′ e = cc (four-are head h)
+
+    pub level-refused : not ok ≡ false → length detail ≡ n → DEEPEST < getD head 2 0 → (detail′ : List ℕ) → detail′ ≡ detailOf n (20 ∷ []) → scope 20 text starts plens vlens levels head detail′ ≡ changeIn n f text starts plens vlens levels head detail
+    unfolding changeIn leveled resolverIn
+    level-refused z h d detail′ e =
+        rw (fit z, eq-eqb (length detail) n h, lt-leb (getD head 2 0) DEEPEST d) (level-scope (head-four z) detail′ e)
+
+    left-scope : (a : Answer) (used count level w limit : ℕ) (text′ starts′ plens′ vlens′ levels′ : List ℕ) → w ≡ level → (r : ℕ) (head′ detail′ : List ℕ) → r ≡ codeOf (numbersOf a) → head′ ≡ used ∷ count ∷ w ∷ limit ∷ [] → detail′ ≡ detailOf n (numbersOf a) → scope r text′ starts′ plens′ vlens′ levels′ head′ detail′ ≡ scopeOf n (changed a (tables text′ starts′ plens′ vlens′ levels′ used count level limit))
+    unfolding scopeOf headOf
+    left-scope a used count level w limit text′ starts′ plens′ vlens′ levels′ ew r head′ detail′ er eh ed = cc
+
+    pub change-left : not ok ≡ false → length detail ≡ n → getD head 2 0 ≤ DEEPEST → (a : Answer) (used count level w : ℕ) (text′ starts′ plens′ vlens′ levels′ : List ℕ) → changed a (tables text′ starts′ plens′ vlens′ levels′ used count level (getD head 3 0)) ≡ f (resolverIn text starts plens vlens levels head) → w ≡ level → (r : ℕ) (head′ detail′ : List ℕ) → r ≡ codeOf (numbersOf a) → head′ ≡ used ∷ count ∷ w ∷ getD head 3 0 ∷ [] → detail′ ≡ detailOf n (numbersOf a) → scope r text′ starts′ plens′ vlens′ levels′ head′ detail′ ≡ changeIn n f text starts plens vlens levels head detail
+    unfolding changeIn leveled resolverIn
+    change-left z h d a used count level w text′ starts′ plens′ vlens′ levels′ core ew r head′ detail′ er eh ed =
+        rw (fit z, eq-eqb (length detail) n h, le-leb (getD head 2 0) DEEPEST d)
+        (left-scope a used count level w (getD head 3 0) text′ starts′ plens′ vlens′ levels′ ew r head′ detail′ er eh ed ∙ ap (scopeOf n) core)
+
+  -- The same for a call that asks.
+
+  module _ (n : ℕ) (f : NamespaceResolver → List ℕ) (detail : List ℕ) where
+    pub ask-arrays : not ok ≡ true → asked WRONG detail ≡ askIn n f text starts plens vlens levels head detail
+    unfolding askIn
+    ask-arrays z = rw (unfit z)
+
+    pub ask-detail : not ok ≡ false → (length detail ≡ n → ⊥) → asked WRONG detail ≡ askIn n f text starts plens vlens levels head detail
+    unfolding askIn
+    ask-detail z h = rw (fit z, ne-eqb (length detail) n h)
+
+    pub ask-level : not ok ≡ false → length detail ≡ n → DEEPEST < getD head 2 0 → (detail′ : List ℕ) → detail′ ≡ detailOf n (20 ∷ []) → asked 20 detail′ ≡ askIn n f text starts plens vlens levels head detail
+    unfolding askIn askedOf codeOf
+    ask-level z h d detail′ e =
+        rw (fit z, eq-eqb (length detail) n h, lt-leb (getD head 2 0) DEEPEST d) (ap (asked 20) e)
+
+    pub ask-left : not ok ≡ false → length detail ≡ n → getD head 2 0 ≤ DEEPEST → (l : List ℕ) → l ≡ f (resolverIn text starts plens vlens levels head) → (r : ℕ) (detail′ : List ℕ) → asked r detail′ ≡ askedOf n l → asked r detail′ ≡ askIn n f text starts plens vlens levels head detail
+    unfolding askIn
+    ask-left z h d l e r detail′ g =
+        rw (fit z, eq-eqb (length detail) n h, le-leb (getD head 2 0) DEEPEST d) (g ∙ ap (askedOf n) e)
+
+pub five-put : (t : List ℕ) (a b c d e : ℕ) → length t ≡ 5 → set (set (set (set (set t 0 a) 1 b) 2 c) 3 d) 4 e ≡ a ∷ b ∷ c ∷ d ∷ e ∷ []
+five-put [] a b c d e h = absurd (omega arith)
+five-put (x ∷ []) a b c d e h = absurd (omega arith)
+five-put (x ∷ y ∷ []) a b c d e h = absurd (omega arith)
+five-put (x ∷ y ∷ z ∷ []) a b c d e h = absurd (omega arith)
+five-put (x ∷ y ∷ z ∷ w ∷ []) a b c d e h = absurd (omega arith)
+five-put (x ∷ y ∷ z ∷ w ∷ v ∷ []) a b c d e h = refl
+five-put (x ∷ y ∷ z ∷ w ∷ v ∷ u ∷ t) a b c d e h = absurd (omega arith)
+
+pub found-told : (a b : Resolved) → a ≡ b → (codeOf (resolvedNumbers b) ≡ codeOf (resolvedNumbers a)) × (detailOf 2 (resolvedNumbers b) ≡ detailOf 2 (resolvedNumbers a))
+found-told a b e = (ap (λ (x : Resolved). codeOf (resolvedNumbers x)) (sym e), ap (λ (x : Resolved). detailOf 2 (resolvedNumbers x)) (sym e))
+
+pub found-asked : (a : Resolved) (r : ℕ) (detail : List ℕ) → r ≡ codeOf (resolvedNumbers a) → detail ≡ detailOf 2 (resolvedNumbers a) → asked r detail ≡ askedOf 2 (resolvedNumbers a)
+unfolding askedOf
+found-asked a r detail e f = cc
+
+pub listed-as : (x y : Listed) (place : ℕ) → x ≡ y → (r : ℕ) (detail : List ℕ) → r ≡ codeOf (listedNumbers y place) → detail ≡ detailOf 5 (listedNumbers y place) → asked r detail ≡ askedOf 5 (listedNumbers x place)
+unfolding askedOf
+listed-as x y place e r detail er ed = cc

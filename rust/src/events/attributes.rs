@@ -1,0 +1,491 @@
+//! The attributes of a tag, one after another.
+
+use crate::ffi::{Answer, BATCH};
+use crate::name::{NamespaceResolver, QName, ResolveResult};
+use std::borrow::{BorrowMut, Cow};
+use std::error::Error;
+use std::fmt::{self, Debug, Display, Formatter};
+use std::iter::FusedIterator;
+use std::ops::Range;
+
+pub use crate::ffi::Tables;
+
+/// The namespace of `xsi:nil`.
+const XML_SCHEMA_INSTANCE: &str = "http://www.w3.org/2001/XMLSchema-instance";
+
+/// An attribute: its key, and its value as it stands in the tag.
+#[derive(Clone, Debug, Eq, PartialEq)]
+pub struct Attribute<'a> {
+    /// The key. With checks on, no two attributes of a tag have the same.
+    pub key: QName<'a>,
+    /// The value, references not replaced.
+    pub value: Cow<'a, str>,
+}
+
+impl Attribute<'_> {
+    /// `1` and `true` are a yes, `0` and `false` a no, and nothing else is either.
+    #[inline]
+    pub fn as_bool(&self) -> Option<bool> {
+        match &*self.value {
+            "1" | "true" => Some(true),
+            "0" | "false" => Some(false),
+            _ => None,
+        }
+    }
+}
+
+impl<'a> From<Attr<&'a str>> for Attribute<'a> {
+    #[inline]
+    fn from(attr: Attr<&'a str>) -> Self {
+        Attribute {
+            key: attr.key(),
+            value: Cow::Borrowed(attr.value()),
+        }
+    }
+}
+
+/// An attribute by the way it is written.
+#[derive(Clone, Debug, PartialEq, Eq, PartialOrd, Ord, Hash)]
+pub enum Attr<T> {
+    /// `key="value"`
+    DoubleQ(T, T),
+    /// `key='value'`
+    SingleQ(T, T),
+    /// `key=value`, in HTML mode alone.
+    Unquoted(T, T),
+    /// `key`, in HTML mode alone.
+    Empty(T),
+}
+
+impl<T> Attr<T> {
+    /// The same with another kind of key and value.
+    #[inline]
+    pub fn map<U, F>(self, mut f: F) -> Attr<U>
+    where
+        F: FnMut(T) -> U,
+    {
+        match self {
+            Attr::DoubleQ(key, value) => Attr::DoubleQ(f(key), f(value)),
+            Attr::SingleQ(key, value) => Attr::SingleQ(f(key), f(value)),
+            Attr::Unquoted(key, value) => Attr::Unquoted(f(key), f(value)),
+            Attr::Empty(key) => Attr::Empty(f(key)),
+        }
+    }
+}
+
+impl<'a> Attr<&'a str> {
+    /// The key.
+    #[inline]
+    pub const fn key(&self) -> QName<'a> {
+        match self {
+            Attr::DoubleQ(key, _)
+            | Attr::SingleQ(key, _)
+            | Attr::Unquoted(key, _)
+            | Attr::Empty(key) => QName(key),
+        }
+    }
+
+    /// The value, which is empty where there is none.
+    #[inline]
+    pub const fn value(&self) -> &'a str {
+        match self {
+            Attr::DoubleQ(_, value) | Attr::SingleQ(_, value) | Attr::Unquoted(_, value) => value,
+            Attr::Empty(_) => "",
+        }
+    }
+}
+
+impl<T> From<Attr<T>> for (T, Option<T>) {
+    #[inline]
+    fn from(attr: Attr<T>) -> Self {
+        match attr {
+            Attr::DoubleQ(key, value) | Attr::SingleQ(key, value) | Attr::Unquoted(key, value) => {
+                (key, Some(value))
+            }
+            Attr::Empty(key) => (key, None),
+        }
+    }
+}
+
+/// What is wrong in a tag. Positions count bytes from the tag's start; each case shows a tag that has it
+/// and, by `^`, the position.
+#[derive(Clone, Debug, PartialEq, Eq)]
+pub enum AttrError {
+    /// A key without `=`, in XML mode. Reading goes on at the position.
+    ///
+    /// ```xml
+    /// <chunk sealed id="c-17">
+    ///               ^
+    /// ```
+    ExpectedEq(usize),
+    /// Nothing after `=`: the position is the tag's length, and reading has ended.
+    ///
+    /// ```xml
+    /// <chunk id= >
+    ///            ^
+    /// ```
+    ExpectedValue(usize),
+    /// A value without quotes, in XML mode. Reading goes on after it, at the next whitespace.
+    ///
+    /// ```xml
+    /// <chunk offset=4096 id="c-17">
+    ///               ^
+    /// ```
+    UnquotedValue(usize),
+    /// A value whose quote, the second number, doesn't come again: the position is the tag's length, and
+    /// reading has ended.
+    ///
+    /// ```xml
+    /// <chunk id="c-17 >
+    ///                 ^
+    /// ```
+    ExpectedQuote(usize, u8),
+    /// A key that came before: its position, and that of the earlier one. Reading goes on at the next
+    /// whitespace after its `=`, be that inside quotes.
+    ///
+    /// ```xml
+    /// <chunk id="c-17" id="c-18" offset="0">
+    ///                  ^
+    /// ```
+    ///
+    /// Comes with checks on alone.
+    Duplicated(usize, usize),
+    /// A new key where 256 are recorded, at the position of the key; reading has ended. quick-xml records
+    /// without end and doesn't have this.
+    ///
+    /// Comes with checks on alone.
+    KeyTableFull(usize),
+    /// The state of reading is none that reading leaves. [`Attributes`] keeps its state to itself, so it
+    /// doesn't come here; quick-xml doesn't have it.
+    BadState,
+}
+
+impl Display for AttrError {
+    fn fmt(&self, f: &mut Formatter) -> fmt::Result {
+        match self {
+            Self::ExpectedEq(pos) => write!(
+                f,
+                "position {pos}: attribute key must be directly followed by `=` or space"
+            ),
+            Self::ExpectedValue(pos) => {
+                write!(
+                    f,
+                    "position {pos}: `=` must be followed by an attribute value"
+                )
+            }
+            Self::UnquotedValue(pos) => write!(
+                f,
+                "position {pos}: attribute value must be enclosed in `\"` or `'`"
+            ),
+            Self::ExpectedQuote(pos, quote) => write!(
+                f,
+                "position {pos}: missing closing quote `{}` in attribute value",
+                char::from(*quote)
+            ),
+            Self::Duplicated(pos, earlier) => write!(
+                f,
+                "position {pos}: duplicated attribute, previous declaration at position {earlier}"
+            ),
+            Self::KeyTableFull(pos) => {
+                write!(f, "position {pos}: more than 256 different attribute keys")
+            }
+            Self::BadState => write!(f, "the state of reading is none that reading leaves"),
+        }
+    }
+}
+
+impl Error for AttrError {}
+
+type AttrResult<T> = Result<Attr<T>, AttrError>;
+
+/// A run over a tag that doesn't hold the tag. Answers are read in batches ahead of those taken.
+#[derive(Clone)]
+struct IterState<T> {
+    html: bool,
+    check_duplicates: bool,
+    /// So many of the answers read ahead were taken, and whether none follow them.
+    taken: usize,
+    ended: bool,
+    tables: T,
+}
+
+impl<T: BorrowMut<Tables>> IterState<T> {
+    #[inline]
+    const fn new(tables: T, html: bool) -> Self {
+        IterState {
+            html,
+            check_duplicates: true,
+            taken: 0,
+            ended: false,
+            tables,
+        }
+    }
+
+    /// Answers that were read ahead under the other setting and not taken are read anew.
+    fn with_checks(&mut self, tag: &[u8], val: bool) {
+        let tables = self.tables.borrow_mut();
+        if val != self.check_duplicates && self.taken < tables.filled() {
+            tables.read_again(tag, self.html, self.check_duplicates, self.taken);
+            self.ended = false;
+        }
+        self.check_duplicates = val;
+    }
+
+    #[inline]
+    fn next(&mut self, tag: &[u8]) -> Option<AttrResult<Range<usize>>> {
+        let tables = self.tables.borrow_mut();
+        if self.taken == tables.filled() {
+            if self.ended {
+                return None;
+            }
+            let read = tables.read(tag, self.html, self.check_duplicates, BATCH);
+            self.taken = 0;
+            self.ended = read < BATCH;
+            if read == 0 {
+                return None;
+            }
+        }
+        let answer = tables.answer(self.taken);
+        self.taken += 1;
+        Some(answered(answer))
+    }
+}
+
+/// The library's numbers for an answer: a refusal's own number, or the way an attribute is written.
+#[inline]
+fn answered(answer: Answer) -> AttrResult<Range<usize>> {
+    let [what, a, b, c, d] = answer;
+    match what {
+        101 => Ok(Attr::DoubleQ(a..b, c..d)),
+        102 => Ok(Attr::SingleQ(a..b, c..d)),
+        103 => Ok(Attr::Unquoted(a..b, c..d)),
+        104 => Ok(Attr::Empty(a..b)),
+        _ => Err(refused(what, a, b)),
+    }
+}
+
+#[cold]
+fn refused(number: usize, a: usize, b: usize) -> AttrError {
+    match number {
+        1 => AttrError::ExpectedEq(a),
+        2 => AttrError::ExpectedValue(a),
+        3 => AttrError::UnquotedValue(a),
+        // the quote is a byte of the tag
+        4 => AttrError::ExpectedQuote(a, b as u8),
+        5 => AttrError::Duplicated(a, b),
+        6 => AttrError::KeyTableFull(a),
+        7 => AttrError::BadState,
+        _ => unreachable!("the library has no answer {number} about a tag"),
+    }
+}
+
+/// The attributes of a tag, and what is wrong in it, in the order in which they stand.
+///
+/// The memory for recorded keys (4 KB) is inside, so that nothing is allocated, and isn't cleared. Where
+/// many tags are read it can be lent instead ([`with_tables`](Attributes::with_tables)); the iterator is
+/// small then and is moved at no cost.
+#[derive(Clone)]
+pub struct Attributes<'a, T = Tables> {
+    buf: &'a str,
+    state: IterState<T>,
+}
+
+impl<'a> Attributes<'a> {
+    /// Reads `buf`, a tag's name and attributes, from `pos` on in XML mode. Past the end there is nothing.
+    ///
+    /// ```
+    /// use mezzulidda::events::attributes::Attributes;
+    ///
+    /// let mut attributes = Attributes::new("chunk id = 'c-17' offset=\"4096\"", 5);
+    /// let id = attributes.next().unwrap().unwrap();
+    /// assert_eq!((id.key.into_inner(), &*id.value), ("id", "c-17"));
+    /// let offset = attributes.next().unwrap().unwrap();
+    /// assert_eq!((offset.key.into_inner(), &*offset.value), ("offset", "4096"));
+    /// assert_eq!(attributes.next(), None);
+    /// ```
+    #[inline]
+    pub const fn new(buf: &'a str, pos: usize) -> Self {
+        let state = IterState::new(Tables::opened(pos), false);
+        Attributes { buf, state }
+    }
+
+    /// The same in HTML mode: values may lack quotes, and keys a value.
+    ///
+    /// ```
+    /// use mezzulidda::events::attributes::Attributes;
+    ///
+    /// let attributes = Attributes::html("chunk sealed offset=4096", 5);
+    /// let values: Vec<_> = attributes.map(|a| a.unwrap().value).collect();
+    /// assert_eq!(values, ["", "4096"]);
+    /// ```
+    #[inline]
+    pub const fn html(buf: &'a str, pos: usize) -> Self {
+        let state = IterState::new(Tables::opened(pos), true);
+        Attributes { buf, state }
+    }
+}
+
+impl<'a, 't> Attributes<'a, &'t mut Tables> {
+    /// As [`new`](Attributes::new), in memory of the caller's own. What an earlier tag left there is of
+    /// no effect.
+    ///
+    /// ```
+    /// use mezzulidda::events::attributes::{Attributes, Tables};
+    ///
+    /// let mut tables = Tables::new();
+    /// let mut read = 0;
+    /// for tag in ["chunk id='c-17'", "chunk id='c-18' offset='0'"] {
+    ///     read += Attributes::with_tables(tag, 5, &mut tables).count();
+    /// }
+    /// assert_eq!(read, 3);
+    /// ```
+    #[inline]
+    pub fn with_tables(buf: &'a str, pos: usize, tables: &'t mut Tables) -> Self {
+        tables.open(pos);
+        let state = IterState::new(tables, false);
+        Attributes { buf, state }
+    }
+
+    /// As [`html`](Attributes::html), in memory of the caller's own.
+    #[inline]
+    pub fn html_with_tables(buf: &'a str, pos: usize, tables: &'t mut Tables) -> Self {
+        tables.open(pos);
+        let state = IterState::new(tables, true);
+        Attributes { buf, state }
+    }
+}
+
+impl<T: BorrowMut<Tables>> Attributes<'_, T> {
+    /// Whether keys are recorded and a second one of the same name is refused. They are, unless told
+    /// otherwise; a change holds for what has not been handed out yet.
+    pub fn with_checks(&mut self, val: bool) -> &mut Self {
+        self.state.with_checks(self.buf.as_bytes(), val);
+        self
+    }
+
+    /// Whether one of the attributes that are left is `nil` in the namespace of XML Schema instances, with
+    /// a yes for its value. What is wrong in the tag counts as a no. Reading stops after a yes.
+    pub fn has_nil(&mut self, resolver: &NamespaceResolver) -> bool {
+        self.any(|attribute| {
+            // names are resolved last, since that costs the most and changes nothing
+            attribute.is_ok_and(|attribute| {
+                attribute.as_bool() == Some(true)
+                    && attribute.key.local_name().into_inner() == "nil"
+                    && matches!(
+                        resolver.resolve_attribute(attribute.key).0,
+                        ResolveResult::Bound(namespace) if namespace.0 == XML_SCHEMA_INSTANCE
+                    )
+            })
+        })
+    }
+}
+
+impl<'a, T: BorrowMut<Tables>> Iterator for Attributes<'a, T> {
+    type Item = Result<Attribute<'a>, AttrError>;
+
+    /// # Panics
+    ///
+    /// As quick-xml's, where reading began inside a character and a key with it.
+    #[inline]
+    fn next(&mut self) -> Option<Self::Item> {
+        let answer = self.state.next(self.buf.as_bytes())?;
+        Some(answer.map(|attr| attr.map(|range| &self.buf[range]).into()))
+    }
+}
+
+impl<T: BorrowMut<Tables>> FusedIterator for Attributes<'_, T> {}
+
+impl<T: BorrowMut<Tables>> Debug for Attributes<'_, T> {
+    fn fmt(&self, f: &mut Formatter) -> fmt::Result {
+        f.debug_struct("Attributes")
+            .field("buf", &self.buf)
+            .field("html", &self.state.html)
+            .field("checks", &self.state.check_duplicates)
+            .field("tables", self.state.tables.borrow())
+            .finish()
+    }
+}
+
+/// The attributes of a tag that need not be text: the same rules on any bytes.
+///
+/// ```
+/// use mezzulidda::events::attributes::{Attr, ByteAttributes};
+///
+/// let mut attributes = ByteAttributes::new(b"chunk id='\xff'", 5);
+/// assert_eq!(attributes.next(), Some(Ok(Attr::SingleQ(&b"id"[..], &b"\xff"[..]))));
+/// assert_eq!(attributes.next(), None);
+/// ```
+#[derive(Clone)]
+pub struct ByteAttributes<'a, T = Tables> {
+    buf: &'a [u8],
+    state: IterState<T>,
+}
+
+impl<'a> ByteAttributes<'a> {
+    /// Reads a tag from `pos` on in XML mode.
+    #[inline]
+    pub const fn new(buf: &'a [u8], pos: usize) -> Self {
+        let state = IterState::new(Tables::opened(pos), false);
+        ByteAttributes { buf, state }
+    }
+
+    /// Reads a tag from `pos` on in HTML mode.
+    #[inline]
+    pub const fn html(buf: &'a [u8], pos: usize) -> Self {
+        let state = IterState::new(Tables::opened(pos), true);
+        ByteAttributes { buf, state }
+    }
+}
+
+impl<'a, 't> ByteAttributes<'a, &'t mut Tables> {
+    /// As [`new`](ByteAttributes::new), in memory of the caller's own.
+    #[inline]
+    pub fn with_tables(buf: &'a [u8], pos: usize, tables: &'t mut Tables) -> Self {
+        tables.open(pos);
+        let state = IterState::new(tables, false);
+        ByteAttributes { buf, state }
+    }
+}
+
+impl<T: BorrowMut<Tables>> ByteAttributes<'_, T> {
+    /// As [`Attributes::with_checks`].
+    pub fn with_checks(&mut self, val: bool) -> &mut Self {
+        self.state.with_checks(self.buf, val);
+        self
+    }
+}
+
+impl<'a, T: BorrowMut<Tables>> Iterator for ByteAttributes<'a, T> {
+    type Item = Result<Attr<&'a [u8]>, AttrError>;
+
+    #[inline]
+    fn next(&mut self) -> Option<Self::Item> {
+        let answer = self.state.next(self.buf)?;
+        Some(answer.map(|attr| attr.map(|range| &self.buf[range])))
+    }
+}
+
+impl<T: BorrowMut<Tables>> FusedIterator for ByteAttributes<'_, T> {}
+
+impl Default for Tables {
+    fn default() -> Self {
+        Tables::new()
+    }
+}
+
+impl Debug for Tables {
+    fn fmt(&self, f: &mut Formatter) -> fmt::Result {
+        let [kind, position, recorded] = self.state();
+        let place = match kind {
+            0 => "done",
+            1 => "next",
+            2 => "skip value",
+            _ => "skip from `=`",
+        };
+        f.debug_struct("Tables")
+            .field("place", &format_args!("{place}({position})"))
+            .field("recorded", &recorded)
+            .field("read_ahead", &self.filled())
+            .finish()
+    }
+}

@@ -1,0 +1,31 @@
+//! The attribute iterator and the namespace scopes of quick-xml 0.42.0, on a library whose every answer
+//! is proved.
+//!
+//! Modules, types and methods have the names that they have in quick-xml, so that a program which reads
+//! tags and resolves names changes one line:
+//!
+//! ```
+//! use mezzulidda as quick_xml; // was: an external crate of that name
+//! use quick_xml::events::attributes::Attributes;
+//!
+//! let keys: Vec<_> = Attributes::new("chunk id='c-17' offset='4096'", 5)
+//!     .map(|attribute| attribute.map(|a| a.key.into_inner()))
+//!     .collect();
+//! assert_eq!(keys, [Ok("id"), Ok("offset")]);
+//! ```
+//!
+//! What is proved is the static library below: which attributes a tag has, where it is damaged, which
+//! namespace a name is in. What stands here hands it memory and turns its numbers into Rust's types; that
+//! is tested and not proved. Tables have fixed sizes, so a tag is read without allocating, and five
+//! refusals that quick-xml does not have say when a table is full or is none of the library's
+//! ([`AttrError`](events::attributes::AttrError), [`NamespaceError`](name::NamespaceError)).
+//!
+//! Normalisation of values and escapes are not part of it: values are those that stand in the tag.
+
+#![deny(unsafe_code)]
+
+pub mod events;
+// The boundary: the one place where memory is handed to code that Rust doesn't check.
+#[allow(unsafe_code)]
+mod ffi;
+pub mod name;

@@ -1,0 +1,228 @@
+//! What quick-xml does not have: memory of fixed sizes, its refusals, memory that is lent, and bytes.
+
+use mezzulidda::events::BytesStart;
+use mezzulidda::events::attributes::{
+    Attr, AttrError, Attribute, Attributes, ByteAttributes, Tables,
+};
+use mezzulidda::name::{
+    Memory, Namespace, NamespaceError, NamespaceResolver, PrefixDeclaration, QName, ResolveResult,
+};
+
+fn keys(count: usize) -> String {
+    (0..count).map(|n| format!(" k{n}=''")).collect()
+}
+
+fn refusals<'a>(
+    answers: impl Iterator<Item = Result<Attribute<'a>, AttrError>>,
+) -> (usize, Vec<AttrError>) {
+    let answers: Vec<_> = answers.collect();
+    let read = answers.iter().filter(|answer| answer.is_ok()).count();
+    (read, answers.into_iter().filter_map(Result::err).collect())
+}
+
+#[test]
+fn the_257th_key_ends_reading() {
+    assert_eq!(refusals(Attributes::new(&keys(256), 0)), (256, vec![]));
+    let content = format!("{} k0='' new='' k1=''", keys(256));
+    let at = keys(256).len() + 1;
+    let wanted = vec![
+        AttrError::Duplicated(at, 1),
+        AttrError::KeyTableFull(at + 6),
+    ];
+    assert_eq!(refusals(Attributes::new(&content, 0)), (256, wanted));
+    // a bare key too, and nothing is read after it
+    let content = format!("{} k0 bare last", keys(256));
+    let wanted = vec![
+        AttrError::Duplicated(at, 1),
+        AttrError::KeyTableFull(at + 3),
+    ];
+    assert_eq!(refusals(Attributes::html(&content, 0)), (256, wanted));
+    let content = format!("{} k0='' new='' k1=''", keys(256));
+    let mut unchecked = Attributes::new(&content, 0);
+    assert_eq!(refusals(unchecked.with_checks(false)), (259, vec![]));
+    assert_eq!(
+        AttrError::KeyTableFull(7).to_string(),
+        "position 7: more than 256 different attribute keys"
+    );
+}
+
+#[test]
+fn lent_tables_remember_nothing() {
+    let mut tables = Tables::new();
+    let long = keys(256);
+    for content in [&*long, "a='1' a='2'", " k0='' k1=''", "", "a=1", "b='"] {
+        let own: Vec<_> = Attributes::new(content, 0).collect();
+        let lent: Vec<_> = Attributes::with_tables(content, 0, &mut tables).collect();
+        assert_eq!(own, lent);
+        let own: Vec<_> = Attributes::html(content, 0).collect();
+        let lent: Vec<_> = Attributes::html_with_tables(content, 0, &mut tables).collect();
+        assert_eq!(own, lent);
+        // one that is left half read
+        Attributes::with_tables(content, 0, &mut tables).next();
+    }
+}
+
+#[test]
+fn a_run_that_is_turned_off_and_on_at_any_place() {
+    // the same answers as a run in which only the settings at each step count
+    let content: String = (0..40)
+        .map(|n| format!(" k{}={}", n % 23, if n % 5 == 0 { "x" } else { "'1 2'" }))
+        .collect();
+    for first in 0..45 {
+        for second in first..45 {
+            let mut ahead = Attributes::new(&content, 0);
+            let mut tables = Tables::new();
+            let mut alone = Attributes::with_tables(&content, 0, &mut tables);
+            for step in 0..60 {
+                let checks = step < first || step >= second;
+                ahead.with_checks(checks);
+                // twice back and forth: what was read ahead is read again, and is the same
+                alone.with_checks(!checks).with_checks(checks);
+                assert_eq!(ahead.next(), alone.next(), "{first} {second} {step}");
+            }
+        }
+    }
+}
+
+#[test]
+fn bytes_that_are_no_text() {
+    let tag = b"\xfe id='\xff' \xfe=\"\" id=''";
+    let mut bytes = ByteAttributes::new(tag, 1);
+    assert_eq!(
+        bytes.next(),
+        Some(Ok(Attr::SingleQ(&b"id"[..], &b"\xff"[..])))
+    );
+    assert_eq!(
+        bytes.next(),
+        Some(Ok(Attr::DoubleQ(&b"\xfe"[..], &b""[..])))
+    );
+    assert_eq!(bytes.next(), Some(Err(AttrError::Duplicated(14, 2))));
+    assert_eq!(bytes.next(), None);
+    assert_eq!(ByteAttributes::new(tag, 1).with_checks(false).count(), 3);
+    assert_eq!(
+        ByteAttributes::html(b"a b=c", 0).collect::<Vec<_>>(),
+        [
+            Ok(Attr::Empty(&b"a"[..])),
+            Ok(Attr::Unquoted(&b"b"[..], &b"c"[..]))
+        ]
+    );
+    let mut tables = Tables::new();
+    assert_eq!(ByteAttributes::with_tables(tag, 1, &mut tables).count(), 3);
+}
+
+#[test]
+fn verdicts() {
+    let xml = "http://www.w3.org/XML/1998/namespace";
+    for (name, value, verdict) in [
+        ("xmlns:v", "urn:v", Some(true)),
+        ("xmlns", "", Some(true)),
+        ("xmlns:xml", xml, Some(true)),
+        ("xmlns:xml", "urn:v", Some(false)),
+        ("xmlns:v", xml, Some(false)),
+        ("xmlns:xmlns", "urn:v", Some(false)),
+        ("xmlns:v", "", Some(false)),
+        ("xmlns:", "urn:v", Some(false)),
+        ("xmlns:a:b", "urn:v", Some(false)),
+        ("id", "c-17", None),
+    ] {
+        assert_eq!(QName(name).verdict(value), verdict, "{name}={value}");
+    }
+}
+
+#[test]
+fn a_resolver_holds_1024_bindings() {
+    let mut resolver = NamespaceResolver::default();
+    resolver.set_max_namespace_bindings(usize::MAX);
+    for _ in 0..1024 {
+        resolver
+            .add(PrefixDeclaration::Named("p"), Namespace("u"))
+            .unwrap();
+    }
+    let full = Err(NamespaceError::BindingTableFull);
+    assert_eq!(
+        resolver.add(PrefixDeclaration::Default, Namespace("u")),
+        full
+    );
+    let tag = BytesStart::from_content("a xmlns='u'", 1);
+    assert_eq!(resolver.push(&tag), full);
+    resolver.set_max_namespace_bindings(1024);
+    assert_eq!(
+        resolver.push(&tag),
+        Err(NamespaceError::TooManyBindings(1024))
+    );
+    assert_eq!(
+        NamespaceError::BindingTableFull.to_string(),
+        "all 1,024 namespace bindings are in use"
+    );
+}
+
+#[test]
+fn a_resolver_holds_65536_bytes_of_text() {
+    let mut resolver = NamespaceResolver::default();
+    let most = "u".repeat(65_536 - 73 - 1);
+    let more = "u".repeat(65_536 - 73);
+    let named = PrefixDeclaration::Named("p");
+    assert_eq!(
+        resolver.add(named, Namespace(&more)),
+        Err(NamespaceError::TextFull)
+    );
+    resolver.add(named, Namespace(&most)).unwrap();
+    assert_eq!(
+        resolver.resolve_element(QName("p:a")).0,
+        ResolveResult::Bound(Namespace(&most))
+    );
+    assert_eq!(
+        resolver.add(PrefixDeclaration::Default, Namespace("u")),
+        Err(NamespaceError::TextFull)
+    );
+    // what needs no room has room
+    resolver
+        .add(PrefixDeclaration::Default, Namespace(""))
+        .unwrap();
+    assert_eq!(
+        NamespaceError::TextFull.to_string(),
+        "the namespace bindings in scope have more than 65,536 bytes of text"
+    );
+}
+
+#[test]
+fn room_that_a_pop_frees_is_used_again() {
+    let mut resolver = NamespaceResolver::default();
+    let content = format!("a xmlns='{}'", "u".repeat(60_000));
+    let tag = BytesStart::from_content(content, 1);
+    for _ in 0..3 {
+        resolver.push(&tag).unwrap();
+        assert_eq!(resolver.push(&tag), Err(NamespaceError::TextFull));
+        resolver.set_level(0);
+    }
+}
+
+#[test]
+fn memory_that_is_given() {
+    let mut memory = Memory::new();
+    for value in ["urn:a", "urn:b"] {
+        let place = std::ptr::from_ref(&*memory);
+        let mut resolver = NamespaceResolver::new_in(memory);
+        assert_eq!((resolver.level(), resolver.bindings().count()), (0, 0));
+        resolver.set_max_namespace_bindings(3);
+        let content = format!("a xmlns='{value}'");
+        resolver
+            .push(&BytesStart::from_content(content, 1))
+            .unwrap();
+        assert_eq!(
+            resolver.resolve_element(QName("x")).0,
+            ResolveResult::Bound(Namespace(value))
+        );
+        memory = resolver.into_memory();
+        assert_eq!(std::ptr::from_ref(&*memory), place);
+    }
+    let resolver = NamespaceResolver::new_in(memory);
+    assert_eq!(resolver.max_namespace_bindings(), 128);
+}
+
+#[test]
+fn reading_and_scopes_can_go_to_other_threads() {
+    fn both<T: Send + Sync>() {}
+    both::<Attributes>();
+    both::<NamespaceResolver>();
+}
