@@ -1,0 +1,24 @@
+-- One turn of counting: a batch of 256 answers, full or the last.
+use Prim.Native.Nat.{ℕ, suc, _+_, _≤_, _<_}
+use mathlib.Core.Path.{_≡_, sym, ap, _∙_}
+use mathlib.Core.List.{List}
+use native.Mathlib.Omega.{arith}
+use lib.ListN.{length, length-append}
+use Rattle.attributes.specs.declared.IterState.{IterState}
+use Rattle.attributes.specs.Run.{runOf}
+use Rattle.batch.specs.Batch.{roomOf}
+use Rattle.lines.proofs.Batches.{Stand, run-most, run-bound}
+
+pub room : (out first : List ℕ) → length out ≡ length first → roomOf first ≡ 256 → roomOf out ≡ 256
+unfolding roomOf
+room out first e h = rw e h
+
+pub full : (s : List ℕ) (st : IterState) (out first : List ℕ) {n : ℕ} → length out ≡ length first → roomOf first ≡ 256 → n ≡ length (runOf (roomOf out) s st) → 256 ≤ n → length (runOf (roomOf out) s st) ≡ roomOf out
+full s st out first e h en le = omega (arith, run-most (roomOf out) s st, room out first e h)
+
+-- the count stays within the length and one
+pub total-fits : (s : List ℕ) (first : IterState) (n : ℕ) (st : IterState) → Stand s first n st → (m : ℕ) → n + length (runOf m s st) ≤ suc (length s)
+total-fits s first n st a m =
+    let b = run-bound (n + m) s first (a .begun) in
+    let e = ap length (a .on m) ∙ length-append (runOf n s first) (runOf m s st) in
+    omega (arith, a .many)

@@ -1,0 +1,35 @@
+-- `attrs::count` meets its contract: tables of zeros are those of a fresh iterator.
+use mathlib.Core.Path.{refl}
+use Rattle.attributes.specs.Next.{opened, noKeys}
+use Rattle.batch.specs.Batch.{lentState, roomOf}
+use Rattle.attrs.specs.Count.{openedOn, tagAnswers}
+use borrow.Author.Needs.{needs}
+use Rattle.attrs.proofs.count.Statement.{statement}
+use Rattle.attrs.proofs.count.Tie as tie
+
+slice-aggregate-count-on : tie.Need-slice-aggregate-count-on
+slice-aggregate-count-on c = search needs
+
+slice-aggregate-count-on-2 : tie.Need-slice-aggregate-count-on-2
+slice-aggregate-count-on-2 c = search needs
+
+slice-aggregate-count-on-3 : tie.Need-slice-aggregate-count-on-3
+slice-aggregate-count-on-3 c = search needs
+
+count-on-requires : tie.Need-count-on-requires
+unfolding roomOf
+count-on-requires c κs = record { starts = refl; ends = refl; room = refl }
+
+returns : tie.Need-returns
+unfolding tagAnswers openedOn lentState opened noKeys
+returns c = c .before .before .before .count-on .ensures
+
+pub count-spec : {M : Type 1} → statement M
+count-spec =
+    tie.close
+    (tie.spec
+    slice-aggregate-count-on
+    slice-aggregate-count-on-2
+    slice-aggregate-count-on-3
+    count-on-requires
+    returns)

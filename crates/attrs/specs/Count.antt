@@ -1,0 +1,27 @@
+-- What is counted: document 01, "Program `attrs`".
+use mathlib.Core.Path.{_≡_}
+use mathlib.Core.Bool.{true, false}
+use mathlib.Core.List.{List}
+use Prim.Native.Nat.{ℕ}
+use lib.ListN.{length}
+use Rattle.keys.specs.Keys.{capacity}
+use Rattle.attributes.specs.declared.Place.the-variants.{Next}
+use Rattle.attributes.specs.declared.Answer.{Answer}
+use Rattle.attributes.specs.declared.IterState.{IterState}
+use Rattle.attributes.specs.Next.{opened}
+use Rattle.attributes.specs.Run.{answersOf}
+use Rattle.batch.specs.Batch.{lentState, roomOf}
+
+-- the tables of an iterator, and an output with room for 256 answers
+pub record Lent (s e numbers : List ℕ) : Type 0 where
+  pub starts : length s ≡ capacity
+  pub ends : length e ≡ capacity
+  pub room : roomOf numbers ≡ 256
+
+-- an iterator in XML mode with checks on, opened at 0 on those tables
+unfoldable pub openedOn : List ℕ → List ℕ → IterState
+openedOn starts ends = lentState (Next 0) false true starts ends 0
+
+-- the answers to one tag, XML mode, checks on, from 0
+unfoldable pub tagAnswers : List ℕ → List Answer
+tagAnswers s = answersOf s (opened 0 false true)

@@ -1,0 +1,4 @@
+pub mod Parts
+pub mod Text
+pub mod Batches
+pub mod Pages

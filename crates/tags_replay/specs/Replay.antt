@@ -1,0 +1,90 @@
+-- What a replay counts: the records from the start on whose answers are those of the iterator's definitions, up to the first
+-- that differs or is cut short.
+use Prim.Native.Nat.{ℕ, zero, suc, _+_, _-_, _*_, _/_, _≤_}
+use mathlib.Core.Path.{_≡_}
+use mathlib.Core.Bool.{Bool}
+use mathlib.Core.List.{List, [], _∷_}
+use lib.ListN.{length, drop, getD}
+use lib.Dec.{eqb, ltb}
+use Rattle.scan.specs.First.{pick}
+use Rattle.scan.specs.Bytes.{part, sameBytes}
+use Rattle.keys.specs.Keys.{capacity}
+use Rattle.attributes.specs.declared.IterState.{IterState}
+use Rattle.attributes.specs.declared.Place.the-variants.{Next}
+use Rattle.attributes.specs.Next.{opened}
+use Rattle.attributes.specs.Run.{answersOf}
+use Rattle.batch.specs.Batch.{fivesOf, lentState}
+use Rattle.tags_replay.specs.declared.Step.{Step}
+use Rattle.tags_replay.specs.declared.Step.the-variants.{Agrees, Differs, Cut}
+use Rattle.tags_replay.specs.declared.End.{End}
+use Rattle.tags_replay.specs.declared.End.the-variants.{All, Differs as DiffersAt, Cut as CutAt}
+use Rattle.tags_replay.specs.declared.Replayed.{Replayed}
+
+-- a number of two bytes, the lower one first
+abbrev pub twoAt : List ℕ → ℕ → ℕ
+twoAt s at = getD s at 0 + 256 * getD s (at + 1) 0
+
+-- the first n of them
+unfoldable pub twosOf : ℕ → List ℕ → List ℕ
+twosOf zero s = []
+twosOf (suc n) s = twoAt s 0 ∷ twosOf n (drop 2 s)
+
+-- the recorded numbers, five for each of so many answers, are those of the answers
+unfoldable pub agreesWith : List ℕ → IterState → (answers : ℕ) → (recorded : List ℕ) → Bool
+agreesWith s st answers recorded = sameBytes (fivesOf (answersOf s st)) (twosOf (5 * answers) recorded)
+
+-- lent tables, an output with room for an answer, and the recorded numbers all there
+pub record Lent (s e out : List ℕ) (answers : ℕ) (recorded : List ℕ) : Type 0 where
+  pub starts : length s ≡ capacity
+  pub ends : length e ≡ capacity
+  pub room : 5 ≤ length out
+  pub whole : 10 * answers ≤ length recorded
+
+-- an iterator opened at a position on lent tables
+unfoldable pub openedOn : ℕ → Bool → Bool → List ℕ → List ℕ → IterState
+openedOn o html checks starts ends = lentState (Next o) html checks starts ends 0
+
+-- whether the answers of a record are ours: behind the tag stand the mode, the checks, the opening position, how many answers
+-- there are, and their numbers
+unfoldable pub tailAgrees : (tag tail : List ℕ) → Bool
+tailAgrees tag tail =
+    agreesWith tag (opened (twoAt tail 2) (eqb (getD tail 0 0) 1) (eqb (getD tail 1 0) 1)) (twoAt tail 4) (drop 6 tail)
+
+-- the record at the front: the tag's length in two bytes, the tag, six bytes, ten for each answer
+unfoldable pub tailOf : (rest : List ℕ) → (n : ℕ) → (tail : List ℕ) → Step
+tailOf rest n tail =
+    pick (ltb ((length tail - 6) / 10) (twoAt tail 4)) Cut
+    (pick (tailAgrees (part rest 2 (2 + n)) tail) (Agrees (8 + n + 10 * twoAt tail 4)) Differs)
+
+unfoldable pub recordOf : List ℕ → Step
+recordOf rest =
+    pick (ltb (length rest) 8) Cut
+    (pick (ltb (length rest - 8) (twoAt rest 0)) Cut
+    (tailOf rest (twoAt rest 0) (drop (2 + twoAt rest 0) rest)))
+
+-- the bytes that a step passes
+abbrev pub sizeOf : Step → ℕ
+sizeOf (Agrees size) = size
+sizeOf Differs = 0
+sizeOf Cut = 0
+
+abbrev pub stopped : ℕ → End → Replayed
+stopped tags end = record { tags = tags; end = end }
+
+-- a record that agrees is counted, and the later ones decide; any other ends the run where it stands
+abbrev pub follow : Step → (at tags : ℕ) → (later : Replayed) → Replayed
+follow (Agrees size) at tags later = later
+follow Differs at tags later = stopped tags (DiffersAt at)
+follow Cut at tags later = stopped tags (CutAt at)
+
+-- The run from a place on, with so many tags counted. A record has bytes, so that the turns do not run out when they
+-- start as the length.
+unfoldable pub replayFrom : (turns : ℕ) → List ℕ → (at tags : ℕ) → Replayed
+replayFrom zero s at tags = stopped tags All
+replayFrom (suc turns) s at tags =
+    pick (ltb at (length s))
+    (follow (recordOf (drop at s)) at tags (replayFrom turns s (at + sizeOf (recordOf (drop at s))) (tags + 1)))
+    (stopped tags All)
+
+unfoldable pub replayOf : List ℕ → Replayed
+replayOf s = replayFrom (length s) s 0 0
