@@ -31,6 +31,12 @@ pub part-at : (s : List ℕ) (a e i : ℕ) → i < e - a → getD (part s a e) i
 unfolding part
 part-at s a e i h = rw (getD-take, getD-drop)
 
+none-length : (s : List ℕ) (a e : ℕ) → a ≡ e → length (part s a e) ≡ 0
+unfolding part
+none-length s a e h =
+    let z : e - a ≡ 0 = omega arith in
+    rw z
+
 module _ (s : List ℕ) (a e b f : ℕ) (ha : a ≤ e) (he : e ≤ length s) (hb : b ≤ f) (hf : f ≤ length s) where
   -- of one length, with the same bytes
   pub alike : e - a ≡ f - b → ((i : ℕ) → 0 ≤ i → i < f - b → getD s (a + i) 0 ≡ getD s (b + i) 0) → sameBytes (part s a e) (part s b f) ≡ true
@@ -51,6 +57,13 @@ module _ (s : List ℕ) (a e b f : ℕ) (ha : a ≤ e) (he : e ≤ length s) (hb
   unlike-byte n i h other =
       same-ne (part s a e) (part s b f)
       (λ eq. other (sym (part-at s a e i (omega arith)) ∙ ap (λ (l : List ℕ). getD l i 0) eq ∙ part-at s b f i h))
+
+  -- with a last byte that differs
+  pub unlike-last : a < e → e - a ≡ f - b → (getD s (e - 1) 0 ≡ getD s (f - 1) 0 → ⊥) → sameBytes (part s a e) (part s b f) ≡ false
+  unlike-last some n other =
+      let x : a + (f - b - 1) ≡ e - 1 = omega arith in
+      let y : b + (f - b - 1) ≡ f - 1 = omega arith in
+      unlike-byte n (f - b - 1) (omega arith) (λ eq. other (ap (λ (i : ℕ). getD s i 0) (sym x) ∙ eq ∙ ap (λ (i : ℕ). getD s i 0) y))
 
 -- what holds from j on, and just before j
 pub down-more : (P : ℕ → Type 0) (j n : ℕ) → 0 < j → ((i : ℕ) → j ≤ i → i < n → P i) → P (j - 1) → (i : ℕ) → j - 1 ≤ i → i < n → P i
@@ -316,3 +329,15 @@ pub check-one-answer : (tag : List ℕ) (checks : Bool) (starts ends : List ℕ)
 check-one-answer tag checks starts ends count from to v w s t e f a b =
     let same : v ≡ w = a .0 ∙ sym (b .0) in
     (same, a .1 ∙ rw same (sym (b .1)), a .2 ∙ rw same (sym (b .2)))
+
+-- no recorded key is empty, so an empty one has no equal
+pub earlier-empty : (tag starts ends : List ℕ) (count from to : ℕ) → KeysIn starts ends count (length tag) → from ≡ to → earlierOf tag starts ends count from to ≡ Nothing
+unfolding nameAt
+earlier-empty tag starts ends count from to keys e =
+    earlier-none tag starts ends count from to
+    (λ k h same.
+    let i = keys .inside k h in
+    let l = part-length tag (getD starts k 0) (getD ends k 0) (omega arith) (i .1) in
+    let z : length (part tag from to) ≡ 0 = none-length tag from to e in
+    let eq = ap length same in
+    omega arith)
