@@ -7,8 +7,9 @@
 //! `IterState` below it. The library's batch is lent the same tables for every tag; they are not
 //! cleared in between. Its `next` hands the whole state over by value at each step.
 //!
-//! Usage: `iterator [--check] [--markdown]`. Status 1 where the ways differ in how many answers a tag
-//! has or, with `--check`, where a ratio is below the one that is wanted.
+//! Usage: `iterator [--check] [--markdown]`, or `iterator --plot` for the figures that benchmark/plot
+//! draws. Status 1 where the ways differ in how many answers a tag has or, with `--check`, where a ratio
+//! is below the one that is wanted.
 
 use oracle::steps::{count_by_attributes, count_by_state};
 use std::hint::black_box;
@@ -92,6 +93,11 @@ const CATALOGUE: &str = " id=\"c-0000042\" offset=\"18446744\" length=\"65536\" 
                          volume=\"archive/north-17\" sha=\"9f86d081884c7d659a2feaa0c55ad015a3bf4f1b\"";
 const _: () = assert!(CATALOGUE.len() == 121);
 
+/// A tag of so many short attributes.
+fn short_attributes(count: usize) -> String {
+    (0..count).map(|n| format!(" a{n}=\"{n}\"")).collect()
+}
+
 fn cases() -> Vec<Case> {
     let case = |name: &str, tag: String, on: f64, off: Option<f64>| Case {
         name: name.to_string(),
@@ -99,7 +105,7 @@ fn cases() -> Vec<Case> {
         wanted: [Some(on), off],
     };
     let short = |count: usize, on: f64| {
-        let tag = (0..count).map(|n| format!(" a{n}=\"{n}\"")).collect();
+        let tag = short_attributes(count);
         case(&format!("{count} short attributes"), tag, on, Some(1.25))
     };
     let unquoted = (0..20).map(|n| format!(" a{n}=v{n}")).collect();
@@ -294,11 +300,53 @@ fn measure_all() -> Result<Vec<Row>, String> {
     Ok(rows)
 }
 
+/// The numbers of attributes that are plotted: 32 and 33 are where the crate begins to search by hash.
+const PLOTTED: [usize; 14] = [1, 2, 4, 8, 16, 22, 32, 33, 48, 64, 96, 128, 192, KEYS];
+
+/// All of them are measured so many times over, and each way's fastest counts.
+const PASSES: usize = 4;
+
+/// For each plotted number of short attributes, checks on, nanoseconds a tag: the crate's, the batch's.
+fn measure_plotted() -> Result<[[f64; 2]; PLOTTED.len()], String> {
+    let mut least = [[f64::INFINITY; 2]; PLOTTED.len()];
+    for index in (0..PASSES).flat_map(|_| 0..PLOTTED.len()) {
+        let count = PLOTTED[index];
+        let case = Case {
+            name: format!("{count} short attributes"),
+            tag: short_attributes(count),
+            wanted: [None, None],
+        };
+        let row = measure(&case, true)?;
+        let [by_crate, batch] = least[index];
+        least[index] = [by_crate.min(row.by_crate), batch.min(row.batch)];
+    }
+    Ok(least)
+}
+
+/// Prints them as benchmark/plot reads them.
+fn print_plotted() -> ExitCode {
+    let measured = match measure_plotted() {
+        Ok(measured) => measured,
+        Err(difference) => {
+            eprintln!("iterator: {difference}");
+            return ExitCode::FAILURE;
+        }
+    };
+    println!("attributes\tcrate\tbatch");
+    for (count, [by_crate, batch]) in PLOTTED.iter().zip(measured) {
+        println!("{count}\t{by_crate:.1}\t{batch:.1}");
+    }
+    ExitCode::SUCCESS
+}
+
 fn main() -> ExitCode {
     let arguments: Vec<String> = std::env::args().skip(1).collect();
+    if arguments == ["--plot"] {
+        return print_plotted();
+    }
     let known = |argument: &String| argument == "--check" || argument == "--markdown";
     if !arguments.iter().all(known) {
-        eprintln!("usage: iterator [--check] [--markdown]");
+        eprintln!("usage: iterator [--check] [--markdown], or iterator --plot");
         return ExitCode::FAILURE;
     }
     let asked = |option: &str| arguments.iter().any(|argument| argument == option);
