@@ -8,3 +8,4 @@ pub mod WellFormed
 pub mod Accepted
 pub mod Examples
 pub mod Resume
+pub mod Ends
