@@ -54,8 +54,8 @@ pub enum Answer {
     ExpectedValue(usize),
     // 3: `key=value` where the value begins, in XML mode; reading goes on at the next whitespace.
     UnquotedValue(usize),
-    // 4: `key="value` and no more: the tag's length, and the quote that is missing.
-    ExpectedQuote(usize, u8),
+    // 4: `key="value` and no more: the tag's length, and the byte of the quote that is missing, as a number like the rest.
+    ExpectedQuote(usize, usize),
     // 5: `key="1" key="2"`: where this key and the earlier one begin; reading goes on at the first whitespace after the
     // `=`, also where it stands in the value.
     Duplicated(usize, usize),
@@ -141,7 +141,8 @@ fn skip_value(tag: &[u8], offset: usize) -> Start
 }
 
 // Passes over what stands at `offset` after whitespace: `IterState::skip_eq_value`. From a quote it goes to the next
-// one of its kind; but what stands at a place of the iterator is the `=`, and that is no quote.
+// one of its kind; but what stands at a place of the iterator is the `=`, and that is no quote: so that search is the
+// plain one, and the fast one has one caller and is compiled into it.
 //
 //     key  =  "value"  next
 //          |        ^
@@ -157,7 +158,7 @@ fn skip_eq_value(tag: &[u8], offset: usize) -> Start
     if !is_quote(quote) {
         return skip_value(tag, x);
     }
-    let e = scan::byte_from(tag, x + 1, quote);
+    let e = scan::byte_by_bytes(tag, x + 1, quote);
     if e < tag.len() {
         return Start::From(e);
     }
@@ -231,6 +232,12 @@ fn single_q(key: Span, value: Span) -> Found
     }
 }
 
+fn wide(b: u8) -> usize
+    ensures { λ r. ⌜ r ≡ b ⌝ }
+{
+    b as usize
+}
+
 // The value in the quotes `quote` that begins at `from`: the end of `IterState::next`.
 //
 //     key = "value" next
@@ -242,7 +249,7 @@ fn read_quoted(tag: &[u8], quote: u8, key: Span, from: usize) -> Found
     let e = scan::byte_from(tag, from, quote);
     if e >= tag.len() {
         return Found {
-            answer: Answer::ExpectedQuote(tag.len(), quote),
+            answer: Answer::ExpectedQuote(tag.len(), wide(quote)),
             place: Place::Done,
         };
     }
@@ -359,7 +366,7 @@ fn key_only<'a>(
 ) -> Outcome
     requires { ⌜ KeysIn (now starts) (now ends) count (length (now tag)) ⌝ }
     requires { ⌜ Room checks (now starts) (now ends) ⌝ }
-    requires { ⌜ (key .start ≤ key .end) × (key .end ≤ length (now tag)) ⌝ }
+    requires { ⌜ (key .start < key .end) × (key .end ≤ length (now tag)) ⌝ }
     ensures { λ r. ⌜ made r (now (starts .exit)) (now (ends .exit)) ≡ bareOf (now (tag .entry)) html checks (lent (now (starts .entry)) (now (ends .entry)) count) key offset ⌝ }
 {
     let place = place_at(tag, offset);
@@ -402,7 +409,7 @@ fn key_valued<'a>(
 ) -> Outcome
     requires { ⌜ KeysIn (now starts) (now ends) count (length (now tag)) ⌝ }
     requires { ⌜ Room checks (now starts) (now ends) ⌝ }
-    requires { ⌜ (key .start ≤ key .end) × (key .end ≤ length (now tag)) ⌝ }
+    requires { ⌜ (key .start < key .end) × (key .end ≤ length (now tag)) ⌝ }
     requires { ⌜ eq < length (now tag) ⌝ }
     ensures { λ r. ⌜ made r (now (starts .exit)) (now (ends .exit)) ≡ valuedOf (now (tag .entry)) html checks (lent (now (starts .entry)) (now (ends .entry)) count) key eq ⌝ }
 {

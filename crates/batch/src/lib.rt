@@ -49,12 +49,6 @@ fn bounds(code: usize, key: Span, value: Span) -> Five
     values(code, key.start, key.end, value.start, value.end)
 }
 
-fn wide(b: u8) -> usize
-    ensures { λ r. ⌜ r ≡ b ⌝ }
-{
-    b as usize
-}
-
 // Document 01's number of an answer and its values in the table's order, then zeros. Only the end has the number 0.
 pub fn numbers(answer: Answer) -> Five
     ensures { λ r. ⌜ listed r ≡ fiveOf answer ⌝ }
@@ -68,7 +62,7 @@ pub fn numbers(answer: Answer) -> Five
         Answer::ExpectedEq(pos) => values(1, pos, 0, 0, 0),
         Answer::ExpectedValue(len) => values(2, len, 0, 0, 0),
         Answer::UnquotedValue(pos) => values(3, pos, 0, 0, 0),
-        Answer::ExpectedQuote(len, quote) => values(4, len, wide(quote), 0, 0),
+        Answer::ExpectedQuote(len, quote) => values(4, len, quote, 0, 0),
         Answer::Duplicated(this, earlier) => values(5, this, earlier, 0, 0),
         Answer::KeyTableFull(this) => values(6, this, 0, 0, 0),
         Answer::BadState => values(7, 0, 0, 0, 0),

@@ -5,21 +5,21 @@ use mathlib.Core.Path.{_≡_, refl, sym, ap, subst, _∙_}
 use mathlib.Core.Bool.{Bool, true, false, not, _&&_, true≢false, false≢true}
 use mathlib.Core.Logic.{⊎-elim}
 use mathlib.Core.List.{List}
-use native.Mathlib.Nat.{eq-or-lt-of-le}
+use native.Mathlib.Nat.{le-of-lt, eq-or-lt-of-le}
 use native.Mathlib.Omega.{arith}
 use lib.ListN.{length, getD, set, take, drop, length-take, length-drop, length-set}
 use lib.Seq.{getD-take, getD-drop, getD-set-same, getD-set-other, ext-getD}
 use lib.Dec.{ltb, leb}
-use borrow.Author.Tests.{lt-ltb, le-ltb, ltb-true, ltb-false, le-leb, lt-leb, leb-true, not-false}
+use borrow.Author.Tests.{eq-eqb, ne-eqb, lt-ltb, le-ltb, ltb-true, ltb-false, le-leb, lt-leb, leb-true, not-false}
 use Rattle.scan.specs.First.{firstTo, pick}
-use Rattle.scan.specs.Bytes.{part, sameBytes}
-use Rattle.scan.proofs.Laws.{IsFirst, to-hit, to-past, to-first, first-only}
+use Rattle.scan.specs.Bytes.{part, isByte, sameBytes}
+use Rattle.scan.proofs.Laws.{IsFirst, to-hit, to-past, to-first, to-skip, first-only}
 use Rattle.scan.proofs.Bytes.{both, same-refl, same-eq, same-ne}
 use Rattle.keys.specs.declared.Earlier.{Earlier}
 use Rattle.keys.specs.declared.Earlier.the-variants.{At, Nothing}
 use Rattle.keys.specs.declared.Checked.{Checked}
 use Rattle.keys.specs.declared.Checked.the-variants.{Fresh, Same, Full}
-use Rattle.keys.specs.Keys.{capacity, keyGood, keyBad, countGood, tableGood, KeysIn, Room, nameAt, sameKey, oldestOf, earlierOf, checkedBy, checkedOf, writtenBy, countBy}
+use Rattle.keys.specs.Keys.{capacity, keyGood, keyBad, countGood, tableGood, KeysIn, EndsIn, Room, nameAt, lastIs, sameKey, oldestOf, earlierOf, checkedBy, checkedOf, writtenBy, countBy}
 
 -- Parts of a tag
 
@@ -30,12 +30,6 @@ part-length s a e h l = simp (length-take, length-drop) (omega arith)
 pub part-at : (s : List ℕ) (a e i : ℕ) → i < e - a → getD (part s a e) i 0 ≡ getD s (a + i) 0
 unfolding part
 part-at s a e i h = rw (getD-take, getD-drop)
-
-none-length : (s : List ℕ) (a e : ℕ) → a ≡ e → length (part s a e) ≡ 0
-unfolding part
-none-length s a e h =
-    let z : e - a ≡ 0 = omega arith in
-    rw z
 
 module _ (s : List ℕ) (a e b f : ℕ) (ha : a ≤ e) (he : e ≤ length s) (hb : b ≤ f) (hf : f ≤ length s) where
   -- of one length, with the same bytes
@@ -58,12 +52,45 @@ module _ (s : List ℕ) (a e b f : ℕ) (ha : a ≤ e) (he : e ≤ length s) (hb
       same-ne (part s a e) (part s b f)
       (λ eq. other (sym (part-at s a e i (omega arith)) ∙ ap (λ (l : List ℕ). getD l i 0) eq ∙ part-at s b f i h))
 
-  -- with a last byte that differs
-  pub unlike-last : a < e → e - a ≡ f - b → (getD s (e - 1) 0 ≡ getD s (f - 1) 0 → ⊥) → sameBytes (part s a e) (part s b f) ≡ false
-  unlike-last some n other =
+  -- with a last byte that differs, whatever their lengths
+  pub unlike-last : a < e → (getD s (e - 1) 0 ≡ getD s (f - 1) 0 → ⊥) → sameBytes (part s a e) (part s b f) ≡ false
+  unlike-last some other =
+      same-ne (part s a e) (part s b f)
+      (λ eq.
+      let n : e - a ≡ f - b = sym (part-length s a e ha he) ∙ ap length eq ∙ part-length s b f hb hf in
       let x : a + (f - b - 1) ≡ e - 1 = omega arith in
       let y : b + (f - b - 1) ≡ f - 1 = omega arith in
-      unlike-byte n (f - b - 1) (omega arith) (λ eq. other (ap (λ (i : ℕ). getD s i 0) (sym x) ∙ eq ∙ ap (λ (i : ℕ). getD s i 0) y))
+      let here = sym (part-at s a e (f - b - 1) (omega arith)) ∙ ap (λ (l : List ℕ). getD l (f - b - 1) 0) eq ∙ part-at s b f (f - b - 1) (omega arith) in
+      other (ap (λ (i : ℕ). getD s i 0) (sym x) ∙ here ∙ ap (λ (i : ℕ). getD s i 0) y))
+
+-- the test of a recorded key's last byte
+module _ (tag ends : List ℕ) (b k : ℕ) where
+  pub last-same : getD tag (getD ends k 0 - 1) 0 ≡ b → lastIs tag ends b k ≡ true
+  unfolding lastIs isByte
+  last-same h = eq-eqb (getD tag (getD ends k 0 - 1) 0) b h
+
+  pub last-other : (getD tag (getD ends k 0 - 1) 0 ≡ b → ⊥) → lastIs tag ends b k ≡ false
+  unfolding lastIs isByte
+  last-other n = ne-eqb (getD tag (getD ends k 0 - 1) 0) b n
+
+  last-not : lastIs tag ends b k ≡ false → getD tag (getD ends k 0 - 1) 0 ≡ b → ⊥
+  last-not h e = true≢false (sym (last-same e) ∙ h)
+
+-- Keys with another last byte are none of those with the same bytes, so the search passes over them.
+pub over-ends : (tag starts ends : List ℕ) (count from to k i : ℕ) → KeysIn starts ends count (length tag) → from ≤ to → to ≤ length tag → i ≡ firstTo (lastIs tag ends (getD tag (to - 1) 0)) k count → k ≤ count → firstTo (sameKey tag starts ends from to) k count ≡ firstTo (sameKey tag starts ends from to) i count
+unfolding nameAt sameKey
+over-ends tag starts ends count from to k i keys hf ht e h =
+    let first = to-first (lastIs tag ends (getD tag (to - 1) 0)) k count h in
+    to-skip (sameKey tag starts ends from to) k i count (omega (arith, first .ahead)) (omega (arith, first .inside))
+    (λ n lo hi.
+    let low : n < firstTo (lastIs tag ends (getD tag (to - 1) 0)) k count = omega arith in
+    let key = keys .inside n (omega (arith, first .inside)) in
+    unlike-last tag (getD starts n 0) (getD ends n 0) from to (le-of-lt (key .0)) (key .1) hf ht (key .0)
+    (last-not tag ends (getD tag (to - 1) 0) n (first .before n lo low)))
+
+pub ends-in : (starts ends : List ℕ) (count len : ℕ) → KeysIn starts ends count len → EndsIn ends count len
+ends-in starts ends count len keys =
+    record { placed = keys .placed .1; inside = λ k lt. (omega (arith, keys .inside k lt .0), keys .inside k lt .1) }
 
 -- what holds from j on, and just before j
 pub down-more : (P : ℕ → Type 0) (j n : ℕ) → 0 < j → ((i : ℕ) → j ≤ i → i < n → P i) → P (j - 1) → (i : ℕ) → j - 1 ≤ i → i < n → P i
@@ -329,15 +356,3 @@ pub check-one-answer : (tag : List ℕ) (checks : Bool) (starts ends : List ℕ)
 check-one-answer tag checks starts ends count from to v w s t e f a b =
     let same : v ≡ w = a .0 ∙ sym (b .0) in
     (same, a .1 ∙ rw same (sym (b .1)), a .2 ∙ rw same (sym (b .2)))
-
--- no recorded key is empty, so an empty one has no equal
-pub earlier-empty : (tag starts ends : List ℕ) (count from to : ℕ) → KeysIn starts ends count (length tag) → from ≡ to → earlierOf tag starts ends count from to ≡ Nothing
-unfolding nameAt
-earlier-empty tag starts ends count from to keys e =
-    earlier-none tag starts ends count from to
-    (λ k h same.
-    let i = keys .inside k h in
-    let l = part-length tag (getD starts k 0) (getD ends k 0) (omega arith) (i .1) in
-    let z : length (part tag from to) ≡ 0 = none-length tag from to e in
-    let eq = ap length same in
-    omega arith)

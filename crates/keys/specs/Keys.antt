@@ -1,13 +1,13 @@
 -- The recorded keys. A table of them is two lists, the keys' starts and their ends in the order in which they were
 -- recorded, and a count: places at or after the count are unused.
-use Prim.Native.Nat.{ℕ, _+_, _≤_, _<_}
+use Prim.Native.Nat.{ℕ, _+_, _-_, _≤_, _<_}
 use mathlib.Core.Path.{_≡_}
 use mathlib.Core.Bool.{Bool, true, false, not, _&&_}
 use mathlib.Core.List.{List}
 use lib.ListN.{length, getD, set}
 use lib.Dec.{ltb, leb}
 use Rattle.scan.specs.First.{firstTo, pick}
-use Rattle.scan.specs.Bytes.{part, sameBytes}
+use Rattle.scan.specs.Bytes.{part, isByte, sameBytes}
 use Rattle.keys.specs.declared.Earlier.{Earlier}
 use Rattle.keys.specs.declared.Earlier.the-variants.{At, Nothing}
 use Rattle.keys.specs.declared.Checked.{Checked}
@@ -40,6 +40,11 @@ pub record KeysIn (starts ends : List ℕ) (count len : ℕ) : Type 0 where
   pub placed : (count ≤ length starts) × (count ≤ length ends)
   pub inside : (k : ℕ) → k < count → (getD starts k 0 < getD ends k 0) × (getD ends k 0 ≤ len)
 
+-- of the ends alone
+pub record EndsIn (ends : List ℕ) (count len : ℕ) : Type 0 where
+  pub placed : count ≤ length ends
+  pub inside : (k : ℕ) → k < count → (0 < getD ends k 0) × (getD ends k 0 ≤ len)
+
 -- While checks are on each list has a place for as many keys as may ever be recorded. Nothing is asked of them while
 -- checks are off.
 pub record Room (checks : Bool) (starts ends : List ℕ) : Type 0 where
@@ -48,6 +53,10 @@ pub record Room (checks : Bool) (starts ends : List ℕ) : Type 0 where
 -- the name at index k: the bytes of that recorded key
 unfoldable pub nameAt : List ℕ → List ℕ → List ℕ → ℕ → List ℕ
 nameAt tag starts ends k = part tag (getD starts k 0) (getD ends k 0)
+
+-- whether the last byte of the recorded key at index k is b
+unfoldable pub lastIs : List ℕ → List ℕ → ℕ → ℕ → Bool
+lastIs tag ends b k = isByte b (getD tag (getD ends k 0 - 1) 0)
 
 -- A key is compared byte by byte with a recorded one: whether that at index k has the bytes from `from` up to `to`.
 unfoldable pub sameKey : List ℕ → List ℕ → List ℕ → ℕ → ℕ → ℕ → Bool

@@ -6,7 +6,8 @@
 ghost use mathlib.Core.Path.{_≡_};
 ghost use Prim.Native.Nat.{_+_, _≤_, _<_};
 ghost use lib.ListN.{length};
-ghost use Rattle.keys.specs.Keys.{KeysIn, Room, tableGood, earlierOf, checkedOf, writtenBy};
+ghost use Rattle.scan.specs.First.{firstTo};
+ghost use Rattle.keys.specs.Keys.{KeysIn, EndsIn, Room, tableGood, lastIs, earlierOf, checkedOf, writtenBy};
 
 // How many keys can be recorded: `capacity` of specs/Keys.antt.
 pub const CAPACITY: usize = 256;
@@ -28,9 +29,38 @@ pub enum Checked {
     Full,
 }
 
-// The oldest recorded key with the bytes from `from` up to `to`. Lengths are compared first; then the bytes, from the
-// last to the first, since the names that stand in one tag differ most often at their ends: so the last byte is kept at
-// hand, and most keys cost no inner loop. No recorded key is empty, so an empty one has no equal.
+// The first recorded key from index `k` on whose last byte is `last`; the count where none is. Most keys are passed over
+// here, so three are asked in a row before the loop goes round.
+fn ending_from<'a>(tag: &[u8], ends: &'a [usize], count: usize, k: usize, last: u8) -> usize
+    requires { ⌜ EndsIn (now ends) count (length (now tag)) ⌝ }
+    requires { ⌜ k ≤ count ⌝ }
+    ensures { λ r. ⌜ r ≡ firstTo (lastIs (now (tag .entry)) (now (ends .entry)) last) k count ⌝ }
+{
+    let mut i = k;
+    while count - i >= 3 {
+        if tag[ends[i] - 1] == last {
+            return i;
+        }
+        if tag[ends[i + 1] - 1] == last {
+            return i + 1;
+        }
+        if tag[ends[i + 2] - 1] == last {
+            return i + 2;
+        }
+        i += 3;
+    }
+    while i < count {
+        if tag[ends[i] - 1] == last {
+            return i;
+        }
+        i += 1;
+    }
+    i
+}
+
+// The oldest recorded key with the bytes from `from` up to `to`. The names that stand in one tag differ most often at
+// their ends: so keys with another last byte are passed over first; then the lengths are compared, and the bytes from the
+// last to the first.
 //
 //     x:id="1" x:ref="2" x:id="3"
 //     |        |         |   ^
@@ -44,24 +74,22 @@ pub fn earlier_key<'a>(
     to: usize,
 ) -> Earlier
     requires { ⌜ KeysIn (now starts) (now ends) count (length (now tag)) ⌝ }
-    requires { ⌜ (from ≤ to) × (to ≤ length (now tag)) ⌝ }
+    requires { ⌜ (from < to) × (to ≤ length (now tag)) ⌝ }
     ensures { λ r. ⌜ r ≡ earlierOf (now (tag .entry)) (now (starts .entry)) (now (ends .entry)) count from to ⌝ }
 {
-    if from == to {
-        return Earlier::Nothing;
-    }
     let last = tag[to - 1];
     let len = to - from;
     let mut found = Earlier::Nothing;
     let mut k = 0;
     'keys: while k < count {
-        let start = starts[k];
-        let end = ends[k];
-        k += 1;
-        if end - start != len {
-            continue 'keys;
+        let i = ending_from(tag, ends, count, k, last);
+        if i >= count {
+            break 'keys;
         }
-        if tag[end - 1] != last {
+        k = i + 1;
+        let start = starts[i];
+        let end = ends[i];
+        if end - start != len {
             continue 'keys;
         }
         let mut j = len;
@@ -118,7 +146,7 @@ pub fn check_for_duplicates<'a>(
 ) -> Checked
     requires { ⌜ KeysIn (now starts) (now ends) count (length (now tag)) ⌝ }
     requires { ⌜ Room checks (now starts) (now ends) ⌝ }
-    requires { ⌜ (from ≤ to) × (to ≤ length (now tag)) ⌝ }
+    requires { ⌜ (from < to) × (to ≤ length (now tag)) ⌝ }
     ensures { λ r. ⌜ (r ≡ checkedOf (now (tag .entry)) checks (now (starts .entry)) (now (ends .entry)) count from to) × (now (starts .exit) ≡ writtenBy checks r (now (starts .entry)) count from) × (now (ends .exit) ≡ writtenBy checks r (now (ends .entry)) count to) ⌝ }
 {
     if !checks {

@@ -156,8 +156,8 @@ fn byte_by_words(tag: &[u8], from: usize, b: u8) -> usize
     i
 }
 
-// The same byte by byte.
-fn byte_by_bytes(tag: &[u8], from: usize, b: u8) -> usize
+// The same byte by byte: for texts that are short, or seldom looked at.
+pub fn byte_by_bytes(tag: &[u8], from: usize, b: u8) -> usize
     ensures { λ r. ⌜ r ≡ firstFrom (isByte b) (now (tag .entry)) from ⌝ }
 {
     let mut i = from;

@@ -8,8 +8,11 @@ use Rattle.attributes.proofs.read_quoted.Tie as tie
 byte-from-requires : tie.Need-byte-from-requires
 byte-from-requires c κs = search needs
 
+wide-requires : tie.Need-wide-requires
+wide-requires c κs = search needs
+
 returns : tie.Need-returns
-returns c = quoted-open _ _ _ _ _ (c .before .byte-from .ensures) (c .if1 .taken)
+returns c = rw (c .wide .ensures) (quoted-open _ _ _ _ _ (c .before .before .byte-from .ensures) (c .before .if1 .taken))
 
 double-q-requires : tie.Need-double-q-requires
 double-q-requires c κs = search needs
@@ -26,4 +29,4 @@ returns-3 c = c .single-q .ensures ∙ closed-single _ _ _ (c .before .if2 .left
 pub read-quoted-spec : {M : Type 1} → statement M
 read-quoted-spec =
     tie.close
-    (tie.spec byte-from-requires returns double-q-requires returns-2 single-q-requires returns-3)
+    (tie.spec byte-from-requires wide-requires returns double-q-requires returns-2 single-q-requires returns-3)

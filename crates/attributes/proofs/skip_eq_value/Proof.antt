@@ -24,17 +24,17 @@ skip-value-requires c κs = search needs
 returns-2 : tie.Need-returns-2
 returns-2 c = c .skip-value .ensures ∙ skip-eq-other _ _ _ (c .before .before .before .before .before .content-from .ensures) (c .before .before .before .before .if1 .left) (sym (c .before .before .is-quote .ensures) ∙ not-true _ (c .before .if2 .taken))
 
-add-byte-from : tie.Need-add-byte-from
-add-byte-from c = search needs
+add-byte-by-bytes : tie.Need-add-byte-by-bytes
+add-byte-by-bytes c = search needs
 
-byte-from-requires : tie.Need-byte-from-requires
-byte-from-requires c κs = search needs
+byte-by-bytes-requires : tie.Need-byte-by-bytes-requires
+byte-by-bytes-requires c κs = search needs
 
 returns-3 : tie.Need-returns-3
-returns-3 c = skip-eq-closed _ _ _ (c .before .before .before .before .before .before .content-from .ensures) (c .before .before .before .before .before .if1 .left) (sym (c .before .before .before .is-quote .ensures) ∙ not-false _ (c .before .before .if2 .left)) _ (c .before .byte-from .ensures) (c .if3 .taken)
+returns-3 c = skip-eq-closed _ _ _ (c .before .before .before .before .before .before .content-from .ensures) (c .before .before .before .before .before .if1 .left) (sym (c .before .before .before .is-quote .ensures) ∙ not-false _ (c .before .before .if2 .left)) _ (c .before .byte-by-bytes .ensures) (c .if3 .taken)
 
 returns-4 : tie.Need-returns-4
-returns-4 c = skip-eq-open _ _ _ (c .before .before .before .before .before .before .content-from .ensures) (c .before .before .before .before .before .if1 .left) (sym (c .before .before .before .is-quote .ensures) ∙ not-false _ (c .before .before .if2 .left)) _ (c .before .byte-from .ensures) (c .if3 .left)
+returns-4 c = skip-eq-open _ _ _ (c .before .before .before .before .before .before .content-from .ensures) (c .before .before .before .before .before .if1 .left) (sym (c .before .before .before .is-quote .ensures) ∙ not-false _ (c .before .before .if2 .left)) _ (c .before .byte-by-bytes .ensures) (c .if3 .left)
 
 pub skip-eq-value-spec : {M : Type 1} → statement M
 skip-eq-value-spec =
@@ -46,7 +46,7 @@ skip-eq-value-spec =
     is-quote-requires
     skip-value-requires
     returns-2
-    add-byte-from
-    byte-from-requires
+    add-byte-by-bytes
+    byte-by-bytes-requires
     returns-3
     returns-4)

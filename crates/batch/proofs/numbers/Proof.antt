@@ -57,9 +57,6 @@ values-requires-5 c κs = search needs
 enum-known-answer-8 : tie.Need-enum-known-answer-8
 enum-known-answer-8 c = search needs
 
-wide-requires : tie.Need-wide-requires
-wide-requires c κs = search needs
-
 values-requires-6 : tie.Need-values-requires-6
 values-requires-6 c κs = search needs
 
@@ -115,7 +112,7 @@ returns-8 c = c .values5 .ensures ∙ ap fiveOf (sym (c .before .before .answer7
 
 returns-9 : tie.Need-returns-9
 unfolding fiveOf numbersOf
-returns-9 c = c .values6 .ensures ∙ rw (c .before .wide .ensures) (ap fiveOf (sym (c .before .before .before .answer8 .given .1)))
+returns-9 c = c .values6 .ensures ∙ ap fiveOf (sym (c .before .before .answer8 .given .1))
 
 returns-10 : tie.Need-returns-10
 unfolding fiveOf numbersOf
@@ -150,7 +147,6 @@ numbers-spec =
     enum-known-answer-7
     values-requires-5
     enum-known-answer-8
-    wide-requires
     values-requires-6
     enum-known-answer-9
     values-requires-7

@@ -4,12 +4,12 @@ use Rattle.name.specs.Split.{colonAt}
 use Rattle.name.proofs.colon_at.Statement.{statement}
 use Rattle.name.proofs.colon_at.Tie as tie
 
-byte-from-requires : tie.Need-byte-from-requires
-byte-from-requires c κs = search needs
+byte-by-bytes-requires : tie.Need-byte-by-bytes-requires
+byte-by-bytes-requires c κs = search needs
 
 returns : tie.Need-returns
 unfolding colonAt
-returns c = c .byte-from .ensures
+returns c = c .byte-by-bytes .ensures
 
 pub colon-at-spec : {M : Type 1} → statement M
-colon-at-spec = tie.close (tie.spec byte-from-requires returns)
+colon-at-spec = tie.close (tie.spec byte-by-bytes-requires returns)
