@@ -10,10 +10,13 @@ use native.Mathlib.Nat.{add-zero, add-suc, not-suc-le-zero}
 use native.Mathlib.Numerals.{sub-one}
 use native.Mathlib.Omega.{arith}
 use lib.Dec.{eqb, leb, ltb}
-use lib.ListN.{length, getD}
+use lib.ListN.{length, getD, length-take, length-drop}
+use lib.Seq.{getD-take, getD-drop}
 use borrow.Author.Tests.{eq-eqb, ne-eqb, eqb-false, lt-leb, le-leb, ltb-true, ltb-false}
 use Rattle.scan.specs.First.{pick, firstTo}
+use Rattle.scan.specs.Bytes.{part, sameBytes}
 use Rattle.scan.proofs.Laws.{picks, to-skip, to-past}
+use Rattle.scan.proofs.Bytes.{same-ne, same-length}
 use Rattle.name.specs.Split.{colonAt, hasColon, colonOf}
 use Rattle.name.specs.declared.Colon.{Colon}
 use Rattle.name.specs.declared.Colon.the-variants.{At, Nowhere}
@@ -21,7 +24,7 @@ use Rattle.table.specs.Table.{TEXT, RECORDS, levelBefore, prefixAt, isTable}
 use Rattle.table.specs.declared.NamespaceResolver.{NamespaceResolver}
 use Rattle.table.proofs.Form.{form, text-next, text-grows}
 use Rattle.lookup.specs.Last.{lastBelow}
-use Rattle.lookup.specs.Lookup.{numbersOf, prefixIn, Inside, valueStart, valueEnd, valueOr, uriPart, prefixPart}
+use Rattle.lookup.specs.Lookup.{numbersOf, prefixIn, hasPrefix, Inside, valueStart, valueEnd, valueOr, uriPart, prefixPart}
 use Rattle.lookup.specs.Listing.{Rising, atLevel}
 use Rattle.lookup.specs.declared.Resolved.{Resolved}
 use Rattle.lookup.specs.declared.Resolved.the-variants.{Bound, Unbound, Unknown, BadResolver}
@@ -57,6 +60,36 @@ module _ (p : ℕ → Bool) where
   unfolding lastBelow
   last-within zero = omega arith
   last-within (suc n) = last-step n (last-within n) (p n) refl
+
+part-at : (s : List ℕ) (a e i : ℕ) → i < e - a → getD (part s a e) i 0 ≡ getD s (a + i) 0
+unfolding part
+part-at s a e i h = rw (getD-take, getD-drop)
+
+-- a record's prefix beside another one, q
+module _ (T S P q : List ℕ) (i : ℕ) (h : getD S i 0 + getD P i 0 ≤ length T) where
+  prefix-length : length (prefixIn T S P i) ≡ getD P i 0
+  unfolding prefixIn part
+  prefix-length = simp (length-take, length-drop) (omega arith)
+
+  -- of two lengths
+  pub unlike-length : (getD P i 0 ≡ length q → ⊥) → hasPrefix T S P q i ≡ false
+  unfolding hasPrefix
+  unlike-length n = same-length (prefixIn T S P i) q (λ e. n (sym prefix-length ∙ e))
+
+  module _ (n : getD P i 0 ≡ length q) where
+    pub like-length : hasPrefix T S P q i ≡ sameBytes (part T (getD S i 0) (getD S i 0 + length q)) q
+    unfolding hasPrefix prefixIn
+    like-length = ap (λ (k : ℕ). sameBytes (part T (getD S i 0) (getD S i 0 + k)) q) n
+
+    -- with a last byte that differs
+    pub unlike-last : 0 < length q → (getD T (getD S i 0 + length q - 1) 0 ≡ getD q (length q - 1) 0 → ⊥) → hasPrefix T S P q i ≡ false
+    unfolding part
+    unlike-last some other =
+        let a : getD S i 0 + (length q - 1) ≡ getD S i 0 + length q - 1 = omega arith in
+        let e : length q - 1 < getD S i 0 + length q - getD S i 0 = omega arith in
+        like-length
+        ∙ same-ne (part T (getD S i 0) (getD S i 0 + length q)) q
+        (λ x. other (ap (λ (k : ℕ). getD T k 0) (sym a) ∙ sym (part-at T (getD S i 0) (getD S i 0 + length q) (length q - 1) e) ∙ ap (λ (l : List ℕ). getD l (length q - 1) 0) x))
 
 module _ (S P W : List ℕ) (other : Resolved) where
   pub value-none : (n : ℕ) → n ≡ 0 → other ≡ valueOr S P W other n

@@ -53,7 +53,9 @@ pub struct Listing {
     pub place: usize,
 }
 
-// The last of the first `count` records with this prefix, as its number counted from 1; 0 where there is none.
+// The last of the first `count` records with this prefix, which is not empty, as its number counted from 1; 0 where there is
+// none. Lengths are compared first and then the last byte, since prefixes of one document differ most often at their ends:
+// so most records cost no inner loop.
 fn last_with<'t, 'n>(
     text: &'t [u8],
     starts: &'t Numbers,
@@ -61,18 +63,25 @@ fn last_with<'t, 'n>(
     count: usize,
     prefix: &'n [u8],
 ) -> usize
-    requires { ⌜ (count ≤ RECORDS) × ((k : ℕ) → k < count → getD (now starts) k 0 + getD (now plens) k 0 ≤ length (now text)) ⌝ }
+    requires { ⌜ (count ≤ RECORDS) × (0 < length (now prefix)) × ((k : ℕ) → k < count → getD (now starts) k 0 + getD (now plens) k 0 ≤ length (now text)) ⌝ }
     ensures { λ r. ⌜ r ≡ lastBelow (hasPrefix (now (text .entry)) (now (starts .entry)) (now (plens .entry)) (now (prefix .entry))) count ⌝ }
 {
+    let len = prefix.len();
+    let last = prefix[len - 1];
     let mut i = count;
     while 0 < i {
-        let k = i - 1;
-        let from = starts[k];
-        let to = from + plens[k];
-        if scan::same(&text[from..to], prefix) {
-            return i;
+        i -= 1;
+        if plens[i] != len {
+            continue;
         }
-        i = k;
+        let from = starts[i];
+        let to = from + len;
+        if text[to - 1] != last {
+            continue;
+        }
+        if scan::same(&text[from..to], prefix) {
+            return i + 1;
+        }
     }
     0
 }

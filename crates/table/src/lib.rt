@@ -195,13 +195,18 @@ fn clear_levels(t: &mut Levels, from: usize, to: usize)
 }
 
 // Whether the text is zero from `from` on. All bytes go into one by `|`, with no early exit, so that LLVM makes a vector
-// loop of it: this is most of what the test of a resolver costs.
+// loop of it: this is most of what the test of a resolver costs. That loop begins at a multiple of 16 bytes, since a vector
+// that lies across two lines of the cache is loaded at half the speed.
 fn zero_text(t: &Text, from: usize) -> bool
     requires { ⌜ (length (now t) ≡ TEXT) × (from ≤ TEXT) ⌝ }
     ensures { λ r. ⌜ r ≡ allZero (drop from (now (t .entry))) ⌝ }
 {
     let mut bits: u8 = 0;
     let mut i = from;
+    while i % 16 != 0 {
+        bits = bits | t[i];
+        i += 1;
+    }
     while i < NamespaceResolver::TEXT {
         bits = bits | t[i];
         i += 1;
@@ -209,13 +214,17 @@ fn zero_text(t: &Text, from: usize) -> bool
     bits == 0
 }
 
-// The same of an array of numbers.
+// The same of an array of numbers, two of which are 16 bytes.
 fn zero_numbers(t: &Numbers, from: usize) -> bool
     requires { ⌜ (length (now t) ≡ RECORDS) × (from ≤ RECORDS) ⌝ }
     ensures { λ r. ⌜ r ≡ allZero (drop from (now (t .entry))) ⌝ }
 {
     let mut bits: usize = 0;
     let mut i = from;
+    while i % 2 != 0 {
+        bits = bits | t[i];
+        i += 1;
+    }
     while i < NamespaceResolver::RECORDS {
         bits = bits | t[i];
         i += 1;

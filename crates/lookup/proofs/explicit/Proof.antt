@@ -16,7 +16,7 @@ returns c = rw (eq-eqb _ _ (c .if1 .taken))
 last-with-requires : tie.Need-last-with-requires
 last-with-requires c κs =
     let a = c .before .before .before .args in
-    (c .before .before .before .pre .1, prefixes-in (a .text .now) (a .starts .now) (a .plens .now) (a .vlens .now) (a .count) (c .before .before .before .pre .0) (c .before .before .before .pre .2))
+    (c .before .before .before .pre .1, omega arith, prefixes-in (a .text .now) (a .starts .now) (a .plens .now) (a .vlens .now) (a .count) (c .before .before .before .pre .0) (c .before .before .before .pre .2))
 
 value-or-requires : tie.Need-value-or-requires
 value-or-requires c κs =
