@@ -14,13 +14,13 @@
 use oracle::steps::{count_by_attributes, count_by_state};
 use std::hint::black_box;
 use std::process::ExitCode;
-use std::time::Instant;
+use turns::{ROUNDS, fastest, shown};
+
+mod turns;
 
 const KEYS: usize = 256;
 /// Room for all answers of any tag here, and one more, so that one call reads to the end.
 const ROOM: usize = 5 * (KEYS + 1);
-const ROUNDS: usize = 400;
-const ROUND_NANOSECONDS: f64 = 200_000.0;
 
 // As in comparison/tags.rs: five numbers for each answer, and the result is how many there are.
 // `mz_count_by_next` reads a tag from 0 to its end, one by-value step after another.
@@ -171,32 +171,6 @@ impl Row {
     }
 }
 
-/// Nanoseconds for one of so many readings, one after another.
-fn time(read: &mut dyn FnMut() -> usize, times: usize) -> f64 {
-    let start = Instant::now();
-    for _ in 0..times {
-        black_box(read());
-    }
-    start.elapsed().as_nanos() as f64 / times as f64
-}
-
-/// The fastest round of each way. The way that begins changes from round to round.
-fn fastest<const N: usize>(mut ways: [&mut dyn FnMut() -> usize; N]) -> [f64; N] {
-    let mut times = [1; N];
-    for (way, times) in ways.iter_mut().zip(&mut times) {
-        time(&mut **way, 3);
-        *times = (ROUND_NANOSECONDS / time(&mut **way, 3)).clamp(1.0, 1e6) as usize;
-    }
-    let mut least = [f64::INFINITY; N];
-    for round in 0..ROUNDS {
-        for turn in 0..N {
-            let way = (round + turn) % N;
-            least[way] = least[way].min(time(&mut *ways[way], times[way]));
-        }
-    }
-    least
-}
-
 fn measure(case: &Case, checks: bool) -> Result<Row, String> {
     let text = case.tag.as_str();
     let tag = text.as_bytes();
@@ -228,14 +202,6 @@ fn measure(case: &Case, checks: bool) -> Result<Row, String> {
         next,
         wanted: case.wanted[usize::from(!checks)],
     })
-}
-
-/// Nanoseconds: a fraction where they are few.
-fn shown(nanoseconds: f64) -> String {
-    match nanoseconds {
-        0.0..100.0 => format!("{nanoseconds:.1}"),
-        _ => format!("{nanoseconds:.0}"),
-    }
 }
 
 fn print_plain(rows: &[Row]) {

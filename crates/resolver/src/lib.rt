@@ -141,7 +141,7 @@ pub fn add_in<'a>(
         va: 0,
         ve: value.len(),
     };
-    declare_in(
+    let out = declare_in(
         text,
         starts,
         plens,
@@ -155,7 +155,15 @@ pub fn add_in<'a>(
         prefix,
         value,
         at,
-    )
+    );
+    // taken apart, since handed on whole it costs `add` one more copy of the resolver
+    let answer = out.answer;
+    Outcome {
+        answer: answer,
+        used: out.used,
+        count: out.count,
+        level: out.level,
+    }
 }
 
 // `NamespaceResolver::add`, src/name.rs.

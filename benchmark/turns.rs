@@ -1,0 +1,47 @@
+//! Timing of several ways to do one thing, in turn.
+//!
+//! Of all its rounds each way's fastest counts: another program on the machine can slow a round down,
+//! and nothing can make one faster.
+
+use std::hint::black_box;
+use std::time::Instant;
+
+pub const ROUNDS: usize = 400;
+const ROUND_NANOSECONDS: f64 = 200_000.0;
+
+/// A way to do it; what it gives back keeps the compiler from leaving it out.
+pub type Way<'w> = &'w mut dyn FnMut() -> usize;
+
+/// Nanoseconds for one of so many times, one after another.
+fn time(way: Way, times: usize) -> f64 {
+    let start = Instant::now();
+    for _ in 0..times {
+        black_box(way());
+    }
+    start.elapsed().as_nanos() as f64 / times as f64
+}
+
+/// The fastest round of each way. The way that begins changes from round to round.
+pub fn fastest<const N: usize>(mut ways: [Way; N]) -> [f64; N] {
+    let mut times = [1; N];
+    for (way, times) in ways.iter_mut().zip(&mut times) {
+        time(&mut **way, 3);
+        *times = (ROUND_NANOSECONDS / time(&mut **way, 3)).clamp(1.0, 1e6) as usize;
+    }
+    let mut least = [f64::INFINITY; N];
+    for round in 0..ROUNDS {
+        for turn in 0..N {
+            let way = (round + turn) % N;
+            least[way] = least[way].min(time(&mut *ways[way], times[way]));
+        }
+    }
+    least
+}
+
+/// Nanoseconds: a fraction where they are few.
+pub fn shown(nanoseconds: f64) -> String {
+    match nanoseconds {
+        0.0..100.0 => format!("{nanoseconds:.1}"),
+        _ => format!("{nanoseconds:.0}"),
+    }
+}
