@@ -13,11 +13,11 @@ use Rattle.lookup.specs.declared.Resolved.the-variants.{Bound, Unbound, 
 use Rattle.lookup.specs.declared.Many.{Many}
 use Rattle.lookup.specs.declared.Many.the-variants as Whole
 
--- What an answer is, as a number: 0 Unbound, 1 Bound, and the refusals' own, 11 Unknown and 20.
+-- What an answer is, as a number: 0 Unbound, 1 Bound, 2 Unknown, and 20.
 unfoldable pub kindOf : Resolved → ℕ
 kindOf (Bound a e) = 1
 kindOf Unbound = 0
-kindOf (Unknown a e) = 11
+kindOf (Unknown a e) = 2
 kindOf BadResolver = 20
 
 -- its bounds: of the URI in the text, or of the prefix in the name; 0 where there are none

@@ -611,14 +611,14 @@ pub enum Many {
     BadResolver,
 }
 
-// What an answer is, as a number, for a function that can hand out no enum: 0 Unbound, 1 Bound, 11 Unknown, 20.
+// What an answer is, as a number, for a function that can hand out no enum: 0 Unbound, 1 Bound, 2 Unknown, 20.
 pub fn kind(found: Resolved) -> usize
     ensures { λ r. ⌜ r ≡ kindOf found ⌝ }
 {
     match found {
         Resolved::Bound(_, _) => 1,
         Resolved::Unbound => 0,
-        Resolved::Unknown(_, _) => 11,
+        Resolved::Unknown(_, _) => 2,
         Resolved::BadResolver => 20,
     }
 }
@@ -690,7 +690,7 @@ fn answer_all<'t, 'n>(
 
 // All the names of a tag in one call, with one test of the resolver: name k stands from `from[k]` to `to[k]` in the tag, and
 // the first `elements` of them want the default. What is found is written to three lent arrays: a number for its kind (0
-// Unbound, 1 Bound, 11 Unknown), and the bounds that `Resolved` has. As many names are looked up as there are bounds and
+// Unbound, 1 Bound, 2 Unknown), and the bounds that `Resolved` has. As many names are looked up as there are bounds and
 // room for.
 pub fn resolve_all_in<'t, 'n>(
     text: &'t Text,

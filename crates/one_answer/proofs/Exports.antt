@@ -14,6 +14,7 @@ use Rattle.batch.specs.declared.Batch.{Batch}
 use Rattle.lines.specs.declared.Paged.{Paged}
 use Rattle.mezzulidda.specs.Reading.{Reading as Batch-reading}
 use Rattle.scope_exports.specs.Scope.{Scope, Asked}
+use Rattle.scope_exports.specs.Names.{Names}
 use Rattle.one_answer.proofs.Ends.{follows, together, alone, read-off}
 use Rattle.lines.proofs.put_lines as lines·put-lines
 use Rattle.lines.proofs.answers as lines·answers
@@ -30,7 +31,9 @@ use Rattle.scope_exports.proofs.mz_push as scope-exports·mz-push
 use Rattle.scope_exports.proofs.mz_pop as scope-exports·mz-pop
 use Rattle.scope_exports.proofs.mz_set_level as scope-exports·mz-set-level
 use Rattle.scope_exports.proofs.mz_add as scope-exports·mz-add
+use Rattle.scope_exports.proofs.mz_layout as scope-exports·mz-layout
 use Rattle.scope_exports.proofs.mz_resolve as scope-exports·mz-resolve
+use Rattle.scope_exports.proofs.mz_resolve_all as scope-exports·mz-resolve-all
 use Rattle.scope_exports.proofs.mz_binding as scope-exports·mz-binding
 use Rattle.scope_exports.proofs.mz_binding_of as scope-exports·mz-binding-of
 
@@ -86,6 +89,12 @@ module _ {M : Type 1} (𝓤 : URA M) (H : Heap 𝓤) (A : Atoms 𝓤) (mem : Mem
 
   pub scope-exports-mz-add : Settled 𝓤 scope-exports·mz-add.ended (scope-exports·mz-add.clauses 𝓤 H A mem run)
   scope-exports-mz-add κs a g y z = read-off 𝓤 (λ (x : Scope). (x .result, (x .text, (x .starts, (x .plens, (x .vlens, (x .levels, (x .head, (tt, (tt, (tt, (x .detail, tt))))))))))))
+
+  pub scope-exports-mz-layout : Settled 𝓤 scope-exports·mz-layout.ended (scope-exports·mz-layout.clauses 𝓤 H A mem run)
+  scope-exports-mz-layout κs a g y z = alone 𝓤 _ y z refl
+
+  pub scope-exports-mz-resolve-all : Settled 𝓤 scope-exports·mz-resolve-all.ended (scope-exports·mz-resolve-all.clauses 𝓤 H A mem run)
+  scope-exports-mz-resolve-all κs a g y z = read-off 𝓤 (λ (x : Names). (x .result, (tt, (tt, (tt, (tt, (tt, (tt, (tt, (tt, (tt, (tt, (x .kinds, (x .begins, (x .ends, tt))))))))))))))
 
   pub scope-exports-mz-resolve : Settled 𝓤 scope-exports·mz-resolve.ended (scope-exports·mz-resolve.clauses 𝓤 H A mem run)
   scope-exports-mz-resolve κs a g y z = read-off 𝓤 (λ (x : Asked). (x .result, (tt, (tt, (tt, (tt, (tt, (tt, (tt, (tt, (x .detail, tt)))))))))))

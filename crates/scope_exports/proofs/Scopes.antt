@@ -19,6 +19,9 @@ use Rattle.push.specs.Push.{DEEPEST}
 use Rattle.scope_exports.specs.Scope.{WRONG, fitsOf, resolverIn, headOf, codeOf, detailOf, Scope, scope, scopeOf, leveled, changeIn, freshIn, Asked, asked, askedOf, askIn, resolvedNumbers, listedNumbers}
 use Rattle.lookup.specs.declared.Resolved.{Resolved}
 use Rattle.lookup.specs.declared.Listed.{Listed}
+use Rattle.lookup.specs.declared.Many.{Many}
+use Rattle.lookup.specs.Many.{output, resolveAllOf}
+use Rattle.scope_exports.specs.Names.{names, alikeOf, manyNumber, namesOf, resolveAllIn}
 
 -- Arrays of two and of four numbers.
 
@@ -130,6 +133,32 @@ module _ (text starts plens vlens levels head : List ℕ) (ok : Bool) (told : ok
     unfolding askIn
     ask-left z h d l e r detail′ g =
         rw (fit z, eq-eqb (length detail) n h, le-leb (getD head 2 0) DEEPEST d) (g ∙ ap (askedOf n) e)
+
+  -- The same for the names of a tag.
+
+  module _ (tag from to : List ℕ) (elements : ℕ) (kinds begins ends : List ℕ) where
+    pub names-arrays : not ok ≡ true → names WRONG kinds begins ends ≡ resolveAllIn text starts plens vlens levels head tag from to elements kinds begins ends
+    unfolding resolveAllIn
+    names-arrays z = rw (unfit z)
+
+    module _ (same : Bool) (counted : same ≡ alikeOf from to kinds begins ends) where
+      pub names-unlike : not ok ≡ false → not same ≡ true → names WRONG kinds begins ends ≡ resolveAllIn text starts plens vlens levels head tag from to elements kinds begins ends
+      unfolding resolveAllIn
+      names-unlike z y = rw (fit z, sym counted ∙ not-true same y)
+
+      pub names-level : not ok ≡ false → not same ≡ false → DEEPEST < getD head 2 0 → names 20 kinds begins ends ≡ resolveAllIn text starts plens vlens levels head tag from to elements kinds begins ends
+      unfolding resolveAllIn
+      names-level z y d = rw (fit z, sym counted ∙ not-false same y, lt-leb (getD head 2 0) DEEPEST d)
+
+      names-told : (m : Many) (kinds′ begins′ ends′ : List ℕ) (r : ℕ) → r ≡ manyNumber m → names r kinds′ begins′ ends′ ≡ namesOf (output m kinds′ begins′ ends′)
+      unfolding namesOf
+      names-told m kinds′ begins′ ends′ r e = cc
+
+      pub names-left : not ok ≡ false → not same ≡ false → getD head 2 0 ≤ DEEPEST → (m : Many) (kinds′ begins′ ends′ : List ℕ) → output m kinds′ begins′ ends′ ≡ resolveAllOf (resolverIn text starts plens vlens levels head) tag from to elements kinds begins ends → (r : ℕ) → r ≡ manyNumber m → names r kinds′ begins′ ends′ ≡ resolveAllIn text starts plens vlens levels head tag from to elements kinds begins ends
+      unfolding resolveAllIn
+      names-left z y d m kinds′ begins′ ends′ core r e =
+          rw (fit z, sym counted ∙ not-false same y, le-leb (getD head 2 0) DEEPEST d)
+          (names-told m kinds′ begins′ ends′ r e ∙ ap namesOf core)
 
 pub five-put : (t : List ℕ) (a b c d e : ℕ) → length t ≡ 5 → set (set (set (set (set t 0 a) 1 b) 2 c) 3 d) 4 e ≡ a ∷ b ∷ c ∷ d ∷ e ∷ []
 five-put [] a b c d e h = absurd (omega arith)

@@ -13,8 +13,11 @@ ghost use Rattle.resolver.specs.Scope.{addOf, popOf};
 ghost use Rattle.push.specs.Push.{pushOf};
 ghost use Rattle.lookup.specs.Lookup.{resolveOf};
 ghost use Rattle.lookup.specs.Listing.{bindingsOf, bindingsAtOf};
+ghost use Rattle.scope_exports.specs.Layout.{layoutOf};
+ghost use Rattle.scope_exports.specs.Names.{alikeOf, manyNumber, names, resolveAllIn};
 ghost use Rattle.scope_exports.specs.Scope.{fitsOf, codeOf, detailOf, scope, changeIn, freshIn, declaredBy, asked, askedOf, askIn, resolvedNumbers, listedNumbers, listingNumbers};
 use lookup::Listed;
+use lookup::Many;
 use lookup::Resolved;
 use name::Declares;
 use table::Answer;
@@ -31,11 +34,41 @@ const DEEPEST: usize = 65535;
 
 const BAD_RESOLVER: usize = 20;
 
+// The numbers that a caller's memory is held against, as `layoutOf` of specs/Layout.antt lists them. The kit has no
+// `size_of`, so the last four are what x86-64 has.
+const LAYOUT: [usize; 12] = [
+    keys::CAPACITY,
+    3,
+    5,
+    NamespaceResolver::TEXT,
+    NamespaceResolver::RECORDS,
+    4,
+    2,
+    5,
+    8,
+    8,
+    2,
+    2,
+];
+
 // An answer with two values: its number, and the values, zeros where it has fewer.
 struct Values {
     code: usize,
     a: usize,
     b: usize,
+}
+
+// The library's own numbers, so that a caller can hold its memory against them: 0 key places of a table, 1 numbers of an
+// iterator's state, 2 of an answer; 3 bytes of text, 4 records, 5 numbers of a head, 6 of a detail, 7 of a listing's
+// detail; 8 bytes of a number, 9 its alignment, 10 bytes of a level, 11 its alignment. Any other is 0.
+#[no_mangle]
+pub extern "C" fn mz_layout(what: usize) -> usize
+    ensures { λ r. ⌜ r ≡ layoutOf what ⌝ }
+{
+    if what < 12 {
+        return LAYOUT[what];
+    }
+    0
 }
 
 // Whether the arrays of a resolver have their lengths.
@@ -571,4 +604,90 @@ pub extern "C" fn mz_binding_of<'t>(
     );
     let shown = l.answer;
     list(detail, shown, l.place)
+}
+
+// Whether there are as many starts as ends, and as many places for each part of an answer.
+fn alike<'n>(
+    from: &'n [usize],
+    to: &'n [usize],
+    kinds: &'n [usize],
+    begins: &'n [usize],
+    ends: &'n [usize],
+) -> bool
+    ensures { λ r. ⌜ r ≡ alikeOf (now (from .entry)) (now (to .entry)) (now (kinds .entry)) (now (begins .entry)) (now (ends .entry)) ⌝ }
+{
+    if to.len() != from.len() {
+        return false;
+    }
+    if kinds.len() != from.len() {
+        return false;
+    }
+    if begins.len() != from.len() {
+        return false;
+    }
+    ends.len() == from.len()
+}
+
+// The number of what a call for many names answers.
+fn many_as(found: Many) -> usize
+    ensures { λ r. ⌜ r ≡ manyNumber found ⌝ }
+{
+    match found {
+        Many::Answered(_) => 0,
+        Many::BadResolver => BAD_RESOLVER,
+    }
+}
+
+// The names of a tag, all by one test of the resolver: `lookup::resolve_all_in`. Name k is the tag's bytes from `from[k]` up
+// to `to[k]`, and the first `elements` of them want the default. What `mz_resolve` would answer for it goes to `kinds[k]`,
+// and the bounds to `begins[k]` and `ends[k]`. 0, 20, 99.
+#[no_mangle]
+pub extern "C" fn mz_resolve_all<'t, 'n>(
+    text: &'t Text,
+    starts: &'t Numbers,
+    plens: &'t Numbers,
+    vlens: &'t Numbers,
+    levels: &'t Levels,
+    head: &'t [usize],
+    tag: &'n [u8],
+    from: &'n [usize],
+    to: &'n [usize],
+    elements: usize,
+    kinds: &mut [usize],
+    begins: &mut [usize],
+    ends: &mut [usize],
+) -> usize
+    ensures { λ r. ⌜ names r (now (kinds .exit)) (now (begins .exit)) (now (ends .exit)) ≡ resolveAllIn (now (text .entry)) (now (starts .entry)) (now (plens .entry)) (now (vlens .entry)) (now (levels .entry)) (now (head .entry)) (now (tag .entry)) (now (from .entry)) (now (to .entry)) elements (now (kinds .entry)) (now (begins .entry)) (now (ends .entry)) ⌝ }
+{
+    if !fits(text, starts, plens, vlens, levels, head) {
+        return WRONG;
+    }
+    if !alike(from, to, kinds, begins, ends) {
+        return WRONG;
+    }
+    let used = head[0];
+    let count = head[1];
+    let level = head[2];
+    if DEEPEST < level {
+        return BAD_RESOLVER;
+    }
+    let depth = level as u16;
+    let found = lookup::resolve_all_in(
+        text,
+        starts,
+        plens,
+        vlens,
+        levels,
+        used,
+        count,
+        depth,
+        tag,
+        from,
+        to,
+        elements,
+        kinds,
+        begins,
+        ends,
+    );
+    many_as(found)
 }
