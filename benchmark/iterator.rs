@@ -11,6 +11,10 @@
 //! draws. Status 1 where the ways differ in how many answers a tag has or, with `--check`, where a ratio
 //! is below the one that is wanted.
 
+#[path = "../rust/src/library.rs"]
+mod library;
+
+use library::{mz_count_by_next, mz_read_batch};
 use oracle::steps::{count_by_attributes, count_by_state};
 use std::hint::black_box;
 use std::process::ExitCode;
@@ -21,27 +25,6 @@ mod turns;
 const KEYS: usize = 256;
 /// Room for all answers of any tag here, and one more, so that one call reads to the end.
 const ROOM: usize = 5 * (KEYS + 1);
-
-// As in comparison/tags.rs: five numbers for each answer, and the result is how many there are.
-// `mz_count_by_next` reads a tag from 0 to its end, one by-value step after another.
-unsafe extern "C" {
-    #[allow(clippy::too_many_arguments)]
-    fn mz_read_batch(
-        tag: *const u8,
-        tag_len: usize,
-        starts: *mut usize,
-        starts_len: usize,
-        ends: *mut usize,
-        ends_len: usize,
-        state: *mut usize,
-        state_len: usize,
-        html: bool,
-        checks: bool,
-        out: *mut usize,
-        out_len: usize,
-    ) -> usize;
-    fn mz_count_by_next(tag: *const u8, tag_len: usize, html: bool, checks: bool) -> usize;
-}
 
 /// What is lent to the batch, tag after tag.
 struct Lent {

@@ -8,36 +8,33 @@
 //! The verdict on a declaration has no counterpart in the crate. It is held against `verdict` below,
 //! a transcription of document 01's sentence.
 //!
-//! Status 0 and counts where all agrees, status 1 and the first difference where it doesn't.
+//! Usage: `names [--short]`. Status 0 and counts where all agrees, status 1 and the first difference where it doesn't.
 
 #[allow(dead_code)]
 #[path = "../oracle/src/cases.rs"]
 mod cases;
+#[path = "../rust/src/library.rs"]
+mod library;
 
 use cases::Lcg;
+use library::{mz_declares, mz_is_xml, mz_is_xmlns, mz_split, mz_verdict};
 use oracle::PrefixDeclaration;
 use oracle::scopes;
 use oracle::text::shown;
 use std::process::ExitCode;
 
 const LETTERS: &[u8] = b"xmlns:";
-const EVERY_UP_TO: u32 = 6;
-const DRAWN: usize = 200_000;
 const SEED: u64 = 42_003;
+
+/// How much is run: every name up to so many bytes, and so many drawn ones. The short part is for a tool
+/// that looks at each access to memory.
+type Extent = (u32, usize);
+
+const SHORT: Extent = (3, 1_000);
+const WHOLE: Extent = (6, 200_000);
 
 const XML_URI: &[u8] = b"http://www.w3.org/XML/1998/namespace";
 const XMLNS_URI: &[u8] = b"http://www.w3.org/2000/xmlns/";
-
-// `mz_split`: the index of the first colon, or the length where there is none. `mz_declares`: 0 no
-// declaration, 1 the default, 2 the prefix behind `xmlns:`. `mz_verdict`: 0 no, 1 yes, 2 the name
-// declares nothing. The others answer 0 or 1.
-unsafe extern "C" {
-    fn mz_split(name: *const u8, len: usize) -> usize;
-    fn mz_declares(name: *const u8, len: usize) -> usize;
-    fn mz_is_xml(prefix: *const u8, len: usize) -> u8;
-    fn mz_is_xmlns(prefix: *const u8, len: usize) -> u8;
-    fn mz_verdict(name: *const u8, name_len: usize, value: *const u8, value_len: usize) -> usize;
-}
 
 fn our_split(name: &[u8]) -> usize {
     // SAFETY: the pointer and the length are those of one slice, which the call only reads.
@@ -190,26 +187,35 @@ fn drawn(lcg: &mut Lcg) -> Vec<u8> {
     name
 }
 
-fn all(tally: &mut Tally) -> Result<(), String> {
-    for len in 0..=EVERY_UP_TO {
+fn all((every_up_to, drawn_ones): Extent, tally: &mut Tally) -> Result<(), String> {
+    for len in 0..=every_up_to {
         for name in cases::every(LETTERS, len) {
             compare(&name, tally)?;
         }
     }
     eprintln!(
-        "names: every one up to {EVERY_UP_TO} bytes agrees, {} of them",
+        "names: every one up to {every_up_to} bytes agrees, {} of them",
         tally.names
     );
     let mut lcg = Lcg::new(SEED);
-    for _ in 0..DRAWN {
+    for _ in 0..drawn_ones {
         compare(&drawn(&mut lcg), tally)?;
     }
     Ok(())
 }
 
 fn main() -> ExitCode {
+    let arguments: Vec<String> = std::env::args().skip(1).collect();
+    let extent = match &arguments[..] {
+        [] => WHOLE,
+        [short] if short == "--short" => SHORT,
+        _ => {
+            eprintln!("usage: names [--short]");
+            return ExitCode::FAILURE;
+        }
+    };
     let mut tally = Tally::default();
-    match all(&mut tally) {
+    match all(extent, &mut tally) {
         Ok(()) => {
             println!(
                 "names: {} names, {} of them declarations, {} answers compared, no difference",

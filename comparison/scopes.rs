@@ -10,7 +10,7 @@
 //! Not compared: numbers of the detail that an answer doesn't have, and a level above 65,535, which
 //! the crate can't hold.
 //!
-//! Usage: `scopes [--whole]`. Status 0 and counts where all agrees, status 1 and the first difference
+//! Usage: `scopes [--short | --whole]`. Status 0 and counts where all agrees, status 1 and the first difference
 //! with the calls that led to it where it doesn't.
 
 #[allow(dead_code)]
@@ -25,6 +25,8 @@ mod drawn;
 mod due;
 #[path = "scopes/lent.rs"]
 mod lent;
+#[path = "../rust/src/library.rs"]
+mod library;
 
 use cases::Lcg;
 use declarations::{PREFIXES, Tags, VALUES, XML_URI, XMLNS_URI};
@@ -182,6 +184,7 @@ impl<'t> Pair<'t> {
         for name in &names {
             self.hold_name(name)?;
         }
+        self.hold_at_once(names)?;
         for prefix in PREFIXES.iter().filter(|prefix| !prefix.contains(':')) {
             self.hold_prefix(Some(prefix), &format!("{prefix}:"))?;
         }
@@ -209,6 +212,23 @@ impl<'t> Pair<'t> {
             self.ask(&Call::Resolve(name.to_string(), default), &wanted)?;
         }
         Ok(())
+    }
+
+    /// All of them in one call, half of them as elements' names.
+    fn hold_at_once(&mut self, names: Vec<String>) -> Result<(), String> {
+        let elements = names.len() / 2;
+        let mut columns = [const { Vec::new() }; 3];
+        for (index, name) in names.iter().enumerate() {
+            let (resolved, _) = self.theirs.resolve(QName(name), index < elements);
+            let mut wanted = resolved_wanted(&self.theirs, &resolved);
+            wanted.detail.resize(2, 0);
+            columns[0].push(wanted.code);
+            columns[1].push(wanted.detail[0]);
+            columns[2].push(wanted.detail[1]);
+        }
+        self.tally.resolved += names.len();
+        let wanted = Wanted::new(0, &columns.concat());
+        self.ask(&Call::ResolveAll(names, elements), &wanted)
     }
 
     /// `resolve_prefix`, asked of the library by a name that has this prefix.
@@ -269,19 +289,30 @@ impl<'t> Pair<'t> {
     }
 }
 
-/// How much is run. The bounded part takes less than a minute.
+/// How much is run. The bounded part takes less than a minute; the short one is for a tool that looks at
+/// each access to memory.
 struct Extent {
+    /// Else those that make most calls are left out.
+    every_part: bool,
     runs: usize,
     filled: usize,
     bad: usize,
 }
 
+const SHORT: Extent = Extent {
+    every_part: false,
+    runs: 1,
+    filled: 0,
+    bad: 40,
+};
 const BOUNDED: Extent = Extent {
+    every_part: true,
     runs: 300,
     filled: 6,
     bad: 4_000,
 };
 const WHOLE: Extent = Extent {
+    every_part: true,
     runs: 6_000,
     filled: 80,
     bad: 60_000,
@@ -473,6 +504,7 @@ fn call_of_each_kind() -> Vec<Call> {
         Call::SetLevel(DEEPEST),
         Call::Resolve("p:a".to_string(), true),
         Call::Resolve("a".to_string(), false),
+        Call::ResolveAll(vec!["p:a".to_string(), "a".to_string()], 1),
         Call::Binding(0),
         Call::Binding(usize::MAX),
         Call::BindingOf(0, 0),
@@ -672,18 +704,30 @@ const PARTS: [(&str, Part); 9] = [
     ("changed by hand", changed_by_hand),
 ];
 
+const MOST_CALLS: [&str; 5] = [
+    "document 01's rows",
+    "limits",
+    "depth",
+    "records full",
+    "filled tables",
+];
+
 fn main() -> ExitCode {
     let arguments: Vec<String> = std::env::args().skip(1).collect();
     let extent = match &arguments[..] {
         [] => BOUNDED,
+        [short] if short == "--short" => SHORT,
         [whole] if whole == "--whole" => WHOLE,
         _ => {
-            eprintln!("usage: scopes [--whole]");
+            eprintln!("usage: scopes [--short | --whole]");
             return ExitCode::FAILURE;
         }
     };
     let mut all = Tally::default();
     for (what, part) in PARTS {
+        if !extent.every_part && MOST_CALLS.contains(&what) {
+            continue;
+        }
         let mut tally = Tally::default();
         if let Err(difference) = part(&extent, &mut tally) {
             println!(

@@ -11,13 +11,16 @@
 //! the output behind the last answer are not written. Not compared: the position beside `done`, which
 //! says nothing, and a kind of place above 3, which document 01 doesn't know.
 //!
-//! Usage: `tags [--whole]`. Status 0 and counts where all agrees, status 1 and the first difference
+//! Usage: `tags [--short | --whole]`. Status 0 and counts where all agrees, status 1 and the first difference
 //! where it doesn't.
 
 #[path = "../oracle/src/cases.rs"]
 mod cases;
+#[path = "../rust/src/library.rs"]
+mod library;
 
 use cases::{Lcg, Shape};
+use library::mz_read_batch;
 use oracle::steps::{Place, Reader, opened_by_start_tag};
 use oracle::text::shown;
 use std::ops::Range;
@@ -29,30 +32,8 @@ const SEED: u64 = 42_004;
 /// What stands in memory that a call has to leave alone.
 const UNTOUCHED: usize = 0x5a5a_5a5a;
 
-// Reads on from a lent state and writes answers while the output has room for one more, five numbers
-// each: a code and its values. Codes: 1 to 7 the refusals of document 01, 101 DoubleQ, 102 SingleQ,
-// 103 Unquoted, 104 Empty. The end writes nothing. The result is the number of answers.
-// `state`: the kind of the place (0 done, 1 next, 2 skip-value, 3 skip from the `=`), its position,
-// and the count of recorded keys, whose bounds stand in `starts` and `ends`.
-unsafe extern "C" {
-    #[allow(clippy::too_many_arguments)]
-    fn mz_read_batch(
-        tag: *const u8,
-        tag_len: usize,
-        starts: *mut usize,
-        starts_len: usize,
-        ends: *mut usize,
-        ends_len: usize,
-        state: *mut usize,
-        state_len: usize,
-        html: bool,
-        checks: bool,
-        out: *mut usize,
-        out_len: usize,
-    ) -> usize;
-}
-
-/// How much is run. The bounded part takes less than a minute.
+/// How much is run. The bounded part takes less than a minute; the short one is for a tool that looks at
+/// each access to memory.
 struct Extent {
     every_up_to: u32,
     drawn_short: usize,
@@ -61,6 +42,13 @@ struct Extent {
     drawn_long: usize,
 }
 
+const SHORT: Extent = Extent {
+    every_up_to: 2,
+    drawn_short: 1_000,
+    states_up_to: 0,
+    drawn_states: 4,
+    drawn_long: 8,
+};
 const BOUNDED: Extent = Extent {
     every_up_to: 4,
     drawn_short: 200_000,
@@ -634,9 +622,10 @@ fn main() -> ExitCode {
     let arguments: Vec<String> = std::env::args().skip(1).collect();
     let extent = match &arguments[..] {
         [] => BOUNDED,
+        [short] if short == "--short" => SHORT,
         [whole] if whole == "--whole" => WHOLE,
         _ => {
-            eprintln!("usage: tags [--whole]");
+            eprintln!("usage: tags [--short | --whole]");
             return ExitCode::FAILURE;
         }
     };

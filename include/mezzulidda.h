@@ -3,8 +3,10 @@
  * ends with the answer that its definition gives, and writes what that says and nothing else. It keeps
  * no pointer, allocates nothing, and asks nothing of its caller but what is said here:
  *
- * - A slice is a pointer and a length, in elements. The pointer is not null and is aligned, also where
- *   the length is 0, and so many elements can be read there, and written where it is not const.
+ * - A slice is a pointer and a length, in elements. The pointer is aligned, and so many elements can be
+ *   read there, and written where it is not const. Where the length is 0 nothing is read or written
+ *   through the pointer: it may be null.
+ * - An array of a fixed length is a pointer alone, which is not null, and so many elements are there.
  * - What a call writes lies apart from everything else that it is given.
  *
  * Positions are indexes of bytes, from 0; bounds are a start and the end behind the last byte.
@@ -19,6 +21,25 @@
 #ifdef __cplusplus
 extern "C" {
 #endif
+
+/* ---- Layout ---- */
+
+/* The numbers that a caller takes for granted about the memory it lends, as the library has them: so a
+ * program can find out that it was compiled with another header than the library's. Any other `what`
+ * is 0. */
+#define MZ_LAYOUT_KEYS 0             /* MZ_KEYS */
+#define MZ_LAYOUT_STATE 1            /* MZ_STATE */
+#define MZ_LAYOUT_ANSWER 2           /* MZ_ANSWER */
+#define MZ_LAYOUT_TEXT 3             /* MZ_TEXT */
+#define MZ_LAYOUT_RECORDS 4          /* MZ_RECORDS */
+#define MZ_LAYOUT_HEAD 5             /* MZ_HEAD */
+#define MZ_LAYOUT_DETAIL 6           /* MZ_DETAIL */
+#define MZ_LAYOUT_LISTED 7           /* MZ_LISTED */
+#define MZ_LAYOUT_NUMBER_SIZE 8      /* sizeof(size_t) */
+#define MZ_LAYOUT_NUMBER_ALIGNMENT 9 /* its alignment */
+#define MZ_LAYOUT_LEVEL_SIZE 10      /* sizeof(uint16_t) */
+#define MZ_LAYOUT_LEVEL_ALIGNMENT 11 /* its alignment */
+size_t mz_layout(size_t what);
 
 /* ---- Names ---- */
 
@@ -114,7 +135,7 @@ size_t mz_count_by_next(const uint8_t *tag, size_t tag_len, bool html, bool chec
 #define MZ_BINDING_TABLE_FULL 18
 #define MZ_TEXT_FULL 19
 #define MZ_BAD_RESOLVER 20
-#define MZ_WRONG_LENGTH 99              /* `head` or `detail` has a wrong length; nothing is changed */
+#define MZ_WRONG_LENGTH 99              /* a slice has a wrong length; nothing is changed */
 
 /* The resolver with no declarations: level 0, limit 128. */
 size_t mz_fresh(MZ_RESOLVER(MZ_CHANGED));
@@ -140,6 +161,18 @@ size_t mz_set_level(MZ_RESOLVER(MZ_CHANGED), uint16_t level);
  * the bounds of the prefix in the name. */
 size_t mz_resolve(MZ_RESOLVER(MZ_READ), const uint8_t *name, size_t name_len, bool use_default,
                   size_t *detail, size_t detail_len);
+
+/* The same for many names by one test of the resolver, which is most of what mz_resolve costs. Name k is
+ * tag[from[k]] up to tag[to[k]], and is empty where these are no bounds in the tag; the first `elements`
+ * names want the default. kinds[k] is the answer, begins[k] and ends[k] are its bounds, or 0: those of
+ * a prefix are in the name and not in the tag. 0 where all names are answered; a refusal, and
+ * MZ_WRONG_LENGTH where the five arrays have not all the same length, write nothing. */
+size_t mz_resolve_all(MZ_RESOLVER(MZ_READ), const uint8_t *tag, size_t tag_len,
+                      const size_t *from, size_t from_len,
+                      const size_t *to, size_t to_len, size_t elements,
+                      size_t *kinds, size_t kinds_len,
+                      size_t *begins, size_t begins_len,
+                      size_t *ends, size_t ends_len);
 
 /* The first binding shown from a place on, 0 at first: 0 the end; 1 a default, 2 a named one, with the
  * bounds of prefix and value in the text and the place that follows. mz_binding shows those that hold,

@@ -1,5 +1,6 @@
 /* Calls each function of the header once or more, so that its parameters are held against the library and
- * not its name alone. Prints what is wrong; the status is the number of it. */
+ * not its name alone; then each with every slice empty and null. Prints what is wrong; the status is the
+ * number of it. */
 #include "mezzulidda.h"
 
 #include <stdio.h>
@@ -15,6 +16,41 @@ static void hold(const char *what, bool holds) {
         printf("header.c: %s\n", what);
         wrong++;
     }
+}
+
+/* Where a type stands behind a char is its alignment. */
+struct number {
+    char before;
+    size_t it;
+};
+struct level {
+    char before;
+    uint16_t it;
+};
+
+static void layout(void) {
+    const size_t wanted[] = {
+        [MZ_LAYOUT_KEYS] = MZ_KEYS,
+        [MZ_LAYOUT_STATE] = MZ_STATE,
+        [MZ_LAYOUT_ANSWER] = MZ_ANSWER,
+        [MZ_LAYOUT_TEXT] = MZ_TEXT,
+        [MZ_LAYOUT_RECORDS] = MZ_RECORDS,
+        [MZ_LAYOUT_HEAD] = MZ_HEAD,
+        [MZ_LAYOUT_DETAIL] = MZ_DETAIL,
+        [MZ_LAYOUT_LISTED] = MZ_LISTED,
+        [MZ_LAYOUT_NUMBER_SIZE] = sizeof(size_t),
+        [MZ_LAYOUT_NUMBER_ALIGNMENT] = offsetof(struct number, it),
+        [MZ_LAYOUT_LEVEL_SIZE] = sizeof(uint16_t),
+        [MZ_LAYOUT_LEVEL_ALIGNMENT] = offsetof(struct level, it),
+    };
+    for (size_t what = 0; what < COUNT(wanted); what++) {
+        size_t said = mz_layout(what);
+        if (said != wanted[what]) {
+            printf("header.c: mz_layout(%zu) is %zu, and %zu by the header\n", what, said, wanted[what]);
+            wrong++;
+        }
+    }
+    hold("mz_layout: any other", mz_layout(COUNT(wanted)) == 0 && mz_layout(SIZE_MAX) == 0);
 }
 
 static void names(void) {
@@ -64,6 +100,25 @@ static bool are(const uint8_t *in, const size_t *bounds, const char *wanted) {
     return bounds[1] - bounds[0] == strlen(wanted) && !memcmp(in + bounds[0], wanted, strlen(wanted));
 }
 
+/* The names of a tag at once: each answer is what mz_resolve says of the name alone. */
+static void all_names(size_t *d) {
+    const char *tag = "x p:x qq:x x";
+    const size_t from[] = {0, 2, 6, 11, 3, 13}, to[] = {1, 5, 10, 12, 2, 14}, elements = 2;
+    size_t kinds[7], begins[7], ends[7];
+    kinds[6] = begins[6] = ends[6] = 77;
+    hold("mz_resolve_all", mz_resolve_all(SCOPE, BYTES(tag), from, 6, to, 6, elements, kinds, 6, begins, 6, ends, 6) ==
+                               0);
+    for (size_t k = 0; k < 6; k++) {
+        bool bounds = from[k] <= to[k] && to[k] <= strlen(tag);
+        const uint8_t *name = (const uint8_t *)tag + (bounds ? from[k] : 0);
+        size_t kind = mz_resolve(SCOPE, name, bounds ? to[k] - from[k] : 0, k < elements, d, MZ_DETAIL);
+        hold("mz_resolve_all: a name", kinds[k] == kind && begins[k] == d[0] && ends[k] == d[1]);
+    }
+    hold("mz_resolve_all: what is behind them", kinds[6] == 77 && begins[6] == 77 && ends[6] == 77);
+    hold("mz_resolve_all: a wrong length", mz_resolve_all(SCOPE, BYTES(tag), from, 6, to, 6, elements, kinds, 6,
+                                                          begins, 7, ends, 6) == MZ_WRONG_LENGTH);
+}
+
 static void scopes(void) {
     size_t d[MZ_DETAIL], listed[MZ_LISTED];
     memset(text, 0x5a, sizeof text);
@@ -78,6 +133,7 @@ static void scopes(void) {
     hold("mz_resolve: the default", mz_resolve(SCOPE, BYTES("x"), true, d, MZ_DETAIL) == 1 && are(text, d, "u"));
     hold("mz_resolve: unbound", mz_resolve(SCOPE, BYTES("x"), false, d, MZ_DETAIL) == 0);
     hold("mz_resolve: unknown", mz_resolve(SCOPE, BYTES("qq:x"), true, d, MZ_DETAIL) == 2 && d[0] == 0 && d[1] == 2);
+    all_names(d);
     hold("mz_binding", mz_binding(SCOPE, 0, listed, MZ_LISTED) == 2 && are(text, listed, "p") &&
                            are(text, listed + 2, "urn:p") && listed[4] == 3);
     hold("mz_binding_of", mz_binding_of(SCOPE, 1, 0, listed, MZ_LISTED) == 1 && are(text, listed + 2, "u") &&
@@ -90,9 +146,40 @@ static void scopes(void) {
     hold("a wrong length", mz_fresh(text, starts, prefix_lens, value_lens, levels, head, 3) == MZ_WRONG_LENGTH);
 }
 
+/* A slice of length 0 by a pointer that no access may go through. */
+#define NONE NULL, 0
+
+static void empty_and_null(void) {
+    size_t d[MZ_DETAIL], listed[MZ_LISTED], state[MZ_STATE] = {MZ_NEXT, 0, 0};
+    static size_t key_starts[MZ_KEYS], key_ends[MZ_KEYS];
+    hold("null: names", mz_split(NONE) == 0 && mz_declares(NONE) == 0 && !mz_is_xml(NONE) && !mz_is_xmlns(NONE));
+    hold("null: mz_verdict", mz_verdict(NONE, NONE) == 2 && mz_verdict(BYTES("xmlns"), NONE) == 1);
+    hold("null: a tag", mz_read_batch(NONE, key_starts, MZ_KEYS, key_ends, MZ_KEYS, state, MZ_STATE, false, true,
+                                      NONE) == 0 && mz_count_by_next(NONE, false, true) == 0);
+    hold("null: tables", mz_read_batch(NONE, NONE, NONE, NONE, false, true, NONE) == MZ_NONE);
+    hold("null: mz_fresh", mz_fresh(text, starts, prefix_lens, value_lens, levels, NONE) == MZ_WRONG_LENGTH &&
+                               mz_fresh(SCOPE) == 0);
+    hold("null: mz_add", mz_add(SCOPE, true, NONE, NONE, d, MZ_DETAIL) == 0 &&
+                             mz_add(SCOPE, false, NONE, NONE, NONE) == MZ_WRONG_LENGTH);
+    hold("null: mz_push", mz_push(SCOPE, NONE, 0, d, MZ_DETAIL) == 0 && mz_push(SCOPE, NONE, 7, d, MZ_DETAIL) == 0 &&
+                              mz_push(SCOPE, NONE, 0, NONE) == MZ_WRONG_LENGTH);
+    hold("null: mz_resolve", mz_resolve(SCOPE, NONE, true, d, MZ_DETAIL) == 0 &&
+                                 mz_resolve(SCOPE, NONE, true, NONE) == MZ_WRONG_LENGTH);
+    hold("null: mz_resolve_all", mz_resolve_all(SCOPE, NONE, NONE, NONE, 0, NONE, NONE, NONE) == 0 &&
+                                     mz_resolve_all(SCOPE, NONE, NONE, NONE, 1, NONE, NONE, listed, 1) ==
+                                         MZ_WRONG_LENGTH);
+    hold("null: listings", mz_binding(SCOPE, 0, NONE) == MZ_WRONG_LENGTH &&
+                               mz_binding_of(SCOPE, 0, 0, NONE) == MZ_WRONG_LENGTH &&
+                               mz_binding(SCOPE, 0, listed, MZ_LISTED) == 0);
+    hold("null: a head", mz_pop(text, starts, prefix_lens, value_lens, levels, NONE) == MZ_WRONG_LENGTH &&
+                             mz_set_level(text, starts, prefix_lens, value_lens, levels, NONE, 1) == MZ_WRONG_LENGTH);
+}
+
 int main(void) {
+    layout();
     names();
     attributes();
     scopes();
+    empty_and_null();
     return wrong;
 }

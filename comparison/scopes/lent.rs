@@ -2,6 +2,7 @@
 //! crate does.
 
 use crate::due::{RECORDS, TEXT, Wanted, add_wanted, push_wanted};
+use crate::library;
 use oracle::NamespaceResolver;
 use oracle::scopes::{self, Record};
 use oracle::text::shown;
@@ -17,41 +18,6 @@ pub const DEEPEST: u16 = u16::MAX;
 pub const UNTOUCHED: usize = 0x5a5a_5a5a;
 /// The library's answer where a lent array has another length than it has to have.
 pub const WRONG_LENGTH: usize = 99;
-
-// Each of the five arrays of a resolver passes as its pointer alone, since the library's type fixes its
-// length; `head` and each slice behind it pass as pointer and length. `head`: text used, record count, level, limit. The result is 0 or a refusal's number, with
-// its numbers in `detail`: bounds in the argument or the tag for 12 to 15, the limit for 16, 65,535
-// for 17. `mz_resolve`: 0 unbound, 1 bound, with the URI's bounds in the text, 2 unknown, with the
-// prefix's bounds in the name. `mz_binding`, `mz_binding_of`: 0 the end, 1 a default, 2 a named one,
-// with the bounds of prefix and value in the text and the next place.
-macro_rules! declare {
-    ($($name:ident($($more:ident: $kind:ty),*);)*) => {
-        unsafe extern "C" { $(
-            fn $name(
-                text: *mut u8,
-                starts: *mut usize,
-                prefix_lens: *mut usize,
-                value_lens: *mut usize,
-                levels: *mut u16,
-                head: *mut usize,
-                head_len: usize,
-                $($more: $kind),*
-            ) -> usize;
-        )* }
-    };
-}
-declare! {
-    mz_fresh();
-    mz_add(named: bool, prefix: *const u8, prefix_len: usize, value: *const u8, value_len: usize,
-        detail: *mut usize, detail_len: usize);
-    mz_push(tag: *const u8, tag_len: usize, at: usize, detail: *mut usize, detail_len: usize);
-    mz_pop();
-    mz_set_level(level: u16);
-    mz_resolve(name: *const u8, name_len: usize, use_default: bool,
-        detail: *mut usize, detail_len: usize);
-    mz_binding(place: usize, detail: *mut usize, detail_len: usize);
-    mz_binding_of(level: u16, place: usize, detail: *mut usize, detail_len: usize);
-}
 
 /// The caller's own resolver that is lent to the library. Each array can have a wrong length.
 #[derive(Clone, PartialEq)]
@@ -77,7 +43,7 @@ macro_rules! call {
         // SAFETY: each pointer is that of a live slice of the length beside it, or of the length that
         // was just tested; what is written is borrowed mutably, and apart from everything else.
         unsafe {
-            $function(
+            library::$function(
                 scope.text.as_mut_ptr(),
                 scope.starts.as_mut_ptr(),
                 scope.prefix_lens.as_mut_ptr(),
@@ -102,6 +68,9 @@ pub enum Call {
     /// The limit is a number of the caller's own: nothing is called for it.
     SetLimit(usize),
     Resolve(String, bool),
+    /// Names of one tag, the first so many of them elements'. Kinds, begins and ends stand one behind the
+    /// other in the detail.
+    ResolveAll(Vec<String>, usize),
     Binding(usize),
     BindingOf(u16, usize),
 }
@@ -120,6 +89,7 @@ impl Call {
         match self {
             Call::Binding(_) | Call::BindingOf(..) => 5,
             Call::Add(..) | Call::Push(..) | Call::Resolve(..) => 2,
+            Call::ResolveAll(names, _) => 3 * names.len(),
             Call::Fresh | Call::Pop | Call::SetLevel(_) | Call::SetLimit(_) => 0,
         }
     }
@@ -132,18 +102,9 @@ impl Call {
             Call::Add(prefix, value) => {
                 let named = prefix.is_some();
                 let prefix = prefix.as_deref().unwrap_or_default();
-                let (p, v) = (prefix.as_ptr(), value.as_ptr());
-                call!(
-                    mz_add,
-                    scope,
-                    named,
-                    p,
-                    prefix.len(),
-                    v,
-                    value.len(),
-                    to,
-                    len
-                )
+                let (p, p_len) = (prefix.as_ptr(), prefix.len());
+                let (v, v_len) = (value.as_ptr(), value.len());
+                call!(mz_add, scope, named, p, p_len, v, v_len, to, len)
             }
             Call::Push(tag, at) => call!(mz_push, scope, tag.as_ptr(), tag.len(), *at, to, len),
             Call::Pop => call!(mz_pop, scope),
@@ -163,6 +124,7 @@ impl Call {
                     len
                 )
             }
+            Call::ResolveAll(names, elements) => resolve_all(scope, names, *elements, detail),
             Call::Binding(place) => call!(mz_binding, scope, *place, to, len),
             Call::BindingOf(level, place) => call!(mz_binding_of, scope, *level, *place, to, len),
         }
@@ -179,7 +141,7 @@ impl Call {
             Call::SetLimit(limit) => {
                 resolver.set_max_namespace_bindings(*limit);
             }
-            Call::Resolve(..) | Call::Binding(_) | Call::BindingOf(..) => {
+            Call::Resolve(..) | Call::ResolveAll(..) | Call::Binding(_) | Call::BindingOf(..) => {
                 return Err(format!("{} changes nothing", self.shown()));
             }
         }
@@ -197,10 +159,58 @@ impl Call {
             Call::SetLimit(limit) => format!("set_limit {limit}"),
             Call::Resolve(name, true) => format!("resolve_element |{}|", cut(name)),
             Call::Resolve(name, false) => format!("resolve_attribute |{}|", cut(name)),
+            Call::ResolveAll(names, elements) => {
+                let names: Vec<_> = names.iter().map(|name| cut(name)).collect();
+                format!(
+                    "resolve all, {elements} as elements |{}|",
+                    names.join("| |")
+                )
+            }
             Call::Binding(place) => format!("bindings from {place}"),
             Call::BindingOf(level, place) => format!("bindings_of {level} from {place}"),
         }
     }
+}
+
+/// The bounds of names that stand in one tag, a blank behind each.
+fn bounds(names: &[String]) -> (Vec<usize>, Vec<usize>) {
+    let mut at = 0;
+    let bounds = names.iter().map(|name| {
+        let from = at;
+        at += name.len() + 1;
+        (from, at - 1)
+    });
+    bounds.unzip()
+}
+
+/// The library's answers about them.
+fn resolve_all(
+    scope: &mut Scope,
+    names: &[String],
+    elements: usize,
+    detail: &mut [usize],
+) -> usize {
+    let tag: String = names.iter().map(|name| format!("{name} ")).collect();
+    let (from, to) = bounds(names);
+    let (kinds, rest) = detail.split_at_mut(names.len());
+    let (begins, ends) = rest.split_at_mut(names.len());
+    call!(
+        mz_resolve_all,
+        scope,
+        tag.as_ptr(),
+        tag.len(),
+        from.as_ptr(),
+        from.len(),
+        to.as_ptr(),
+        to.len(),
+        elements,
+        kinds.as_mut_ptr(),
+        kinds.len(),
+        begins.as_mut_ptr(),
+        begins.len(),
+        ends.as_mut_ptr(),
+        ends.len()
+    )
 }
 
 /// A text as it is shown: a long one with its middle left out.

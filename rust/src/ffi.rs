@@ -1,11 +1,16 @@
-//! The boundary to the static library (`include/mezzulidda.h`): the memory that is lent to it, and safe
-//! calls on that memory.
+//! The boundary to the static library (`library.rs`): the memory that is lent to it, and safe calls on that
+//! memory.
 //!
-//! All `unsafe` of the crate is here. The library keeps no pointer after a call, allocates nothing, and
-//! writes nothing but what it is lent for writing. Its answers are numbers; what they mean is said where
-//! they are taken apart, in `events::attributes` and `name`.
+//! All `unsafe` of the crate is here, but for the declarations. The library keeps no pointer after a call,
+//! allocates nothing, and writes nothing but what it is lent for writing. Its answers are numbers; what they
+//! mean is said where they are taken apart, in `events::attributes` and `name`.
 
+use crate::lent::LentError;
+use crate::library;
+use std::fmt::{self, Debug, Formatter};
 use std::mem::MaybeUninit;
+use std::ptr;
+use std::sync::atomic::{AtomicBool, Ordering};
 
 /// How many keys of a tag can be recorded, and how many answers are read ahead.
 const KEYS: usize = 256;
@@ -15,76 +20,80 @@ pub const BATCH: usize = 16;
 const RECORDS: usize = 1_026;
 const TEXT: usize = 65_536;
 
+/// The state of reading a tag: the kind of the place (0 done, 1 next, 2 skip a value, 3 skip from `=`), its
+/// position, and the number of recorded keys.
+type State = [usize; 3];
+
 /// An answer about a tag: what it is, and up to four positions.
 pub type Answer = [usize; 5];
 
-mod library {
-    unsafe extern "C" {
-        pub fn mz_split(name: *const u8, name_len: usize) -> usize;
-        pub fn mz_declares(name: *const u8, name_len: usize) -> usize;
-        pub fn mz_is_xml(prefix: *const u8, prefix_len: usize) -> bool;
-        pub fn mz_is_xmlns(prefix: *const u8, prefix_len: usize) -> bool;
-        pub fn mz_verdict(
-            name: *const u8,
-            name_len: usize,
-            value: *const u8,
-            value_len: usize,
-        ) -> usize;
-        #[allow(clippy::too_many_arguments)]
-        pub fn mz_read_batch(
-            tag: *const u8,
-            tag_len: usize,
-            starts: *mut usize,
-            starts_len: usize,
-            ends: *mut usize,
-            ends_len: usize,
-            state: *mut usize,
-            state_len: usize,
-            html: bool,
-            checks: bool,
-            out: *mut usize,
-            out_len: usize,
-        ) -> usize;
-    }
+/// Text used, number of records, level and limit of a resolver.
+type Head = [usize; 4];
 
-    // The arrays of a resolver, `head` with its length; what else the call takes comes after them.
-    macro_rules! on_a_resolver {
-        ($array:ident: $($name:ident($($more:ident: $kind:ty),*);)*) => {
-            unsafe extern "C" { $(
-                #[allow(clippy::too_many_arguments)]
-                pub fn $name(
-                    text: $array!([u8; super::TEXT]),
-                    starts: $array!([usize; super::RECORDS]),
-                    prefix_lens: $array!([usize; super::RECORDS]),
-                    value_lens: $array!([usize; super::RECORDS]),
-                    levels: $array!([u16; super::RECORDS]),
-                    head: $array!(usize),
-                    head_len: usize,
-                    $($more: $kind),*
-                ) -> usize;
-            )* }
-        };
+/// The numbers of an answer about a resolver, and those of one in a listing.
+type Detail = [usize; 2];
+type Listed = [usize; 5];
+
+/// So many names are resolved by one call.
+pub const NAMES: usize = 32;
+
+const NUMBER: usize = size_of::<usize>();
+
+/// What this crate takes for granted of the library, in the order in which `mz_layout` numbers it.
+const LAYOUT: [(&str, usize); 12] = [
+    ("key places of a table", KEYS),
+    ("numbers of a state", size_of::<State>() / NUMBER),
+    ("numbers of an answer", size_of::<Answer>() / NUMBER),
+    ("bytes of text", TEXT),
+    ("records", RECORDS),
+    ("numbers of a head", size_of::<Head>() / NUMBER),
+    ("numbers of a detail", size_of::<Detail>() / NUMBER),
+    (
+        "numbers of a listing's detail",
+        size_of::<Listed>() / NUMBER,
+    ),
+    ("bytes of a number", NUMBER),
+    ("alignment of a number", align_of::<usize>()),
+    ("bytes of a level", size_of::<u16>()),
+    ("alignment of a level", align_of::<u16>()),
+];
+
+/// Whether the layouts were compared, and agree.
+static AGREED: AtomicBool = AtomicBool::new(false);
+
+/// Sees to it that the library is one for this crate, before it is lent memory.
+///
+/// # Panics
+///
+/// If it isn't: every call would write where it must not, and no answer could say so.
+#[inline]
+fn agree() {
+    // the flag stands for nothing else in memory, and what it says can't change
+    if !AGREED.load(Ordering::Relaxed) {
+        compare_layouts();
     }
-    macro_rules! changed {
-        ($of:ty) => { *mut $of };
-    }
-    macro_rules! looked_at {
-        ($of:ty) => { *const $of };
-    }
-    on_a_resolver! { changed:
-        mz_fresh();
-        mz_add(named: bool, prefix: *const u8, prefix_len: usize, value: *const u8, value_len: usize,
-            detail: *mut usize, detail_len: usize);
-        mz_push(tag: *const u8, tag_len: usize, at: usize, detail: *mut usize, detail_len: usize);
-        mz_pop();
-        mz_set_level(level: u16);
-    }
-    on_a_resolver! { looked_at:
-        mz_resolve(name: *const u8, name_len: usize, use_default: bool, detail: *mut usize,
-            detail_len: usize);
-        mz_binding(place: usize, detail: *mut usize, detail_len: usize);
-        mz_binding_of(level: u16, place: usize, detail: *mut usize, detail_len: usize);
-    }
+}
+
+#[cold]
+fn compare_layouts() {
+    let differences = differences(|what| library::mz_layout(what));
+    assert!(
+        differences.is_empty(),
+        "the static library is not one for this crate: {differences}"
+    );
+    AGREED.store(true, Ordering::Relaxed);
+}
+
+/// Where a library says something else of its layout than is taken for granted here, in words.
+fn differences(says: impl Fn(usize) -> usize) -> String {
+    let differences: Vec<_> = LAYOUT
+        .iter()
+        .enumerate()
+        .map(|(number, (what, ours))| (what, ours, says(number)))
+        .filter(|(_, ours, theirs)| *ours != theirs)
+        .map(|(what, ours, theirs)| format!("{what}: {theirs} in the library, {ours} in the crate"))
+        .collect();
+    differences.join("; ")
 }
 
 /// The index of the first colon, or the length where there is none.
@@ -103,14 +112,14 @@ pub fn declares(name: &str) -> usize {
 
 #[inline]
 pub fn is_xml(prefix: &str) -> bool {
-    // SAFETY: as for `mz_split`; the answer is 0 or 1.
-    unsafe { library::mz_is_xml(prefix.as_ptr(), prefix.len()) }
+    // SAFETY: as for `mz_split`.
+    unsafe { library::mz_is_xml(prefix.as_ptr(), prefix.len()) != 0 }
 }
 
 #[inline]
 pub fn is_xmlns(prefix: &str) -> bool {
-    // SAFETY: as for `mz_split`; the answer is 0 or 1.
-    unsafe { library::mz_is_xmlns(prefix.as_ptr(), prefix.len()) }
+    // SAFETY: as for `mz_split`.
+    unsafe { library::mz_is_xmlns(prefix.as_ptr(), prefix.len()) != 0 }
 }
 
 /// 0 no, 1 yes, 2 it declares nothing.
@@ -126,10 +135,9 @@ pub fn verdict(name: &str, value: &str) -> usize {
 /// `state[2]` are written, of the answers the first `filled`, and no other is looked at.
 #[derive(Clone)]
 pub struct Tables {
-    /// The kind of the place (0 done, 1 next, 2 skip a value, 3 skip from `=`), its position, and the
-    /// number of recorded keys; and the same as they were before the answers in `out`.
-    state: [usize; 3],
-    before: [usize; 3],
+    /// The state, and the one before the answers in `out`.
+    state: State,
+    before: State,
     filled: usize,
     out: MaybeUninit<[Answer; BATCH]>,
     starts: MaybeUninit<[usize; KEYS]>,
@@ -141,6 +149,40 @@ impl Tables {
     #[inline]
     pub const fn new() -> Self {
         Tables::opened(0)
+    }
+
+    /// How many bytes tables have.
+    pub const SIZE: usize = size_of::<Self>();
+    /// Their address is a multiple of this.
+    pub const ALIGNMENT: usize = align_of::<Self>();
+
+    /// Tables in memory that is lent as bytes, whatever stands there. The bytes need not be set, as most
+    /// of the tables isn't.
+    ///
+    /// ```
+    /// use mezzulidda::LentError;
+    /// use mezzulidda::events::attributes::{Attributes, Tables};
+    /// use std::mem::MaybeUninit;
+    ///
+    /// let mut room = [MaybeUninit::uninit(); Tables::SIZE + Tables::ALIGNMENT];
+    /// let from = room.as_ptr().align_offset(Tables::ALIGNMENT);
+    /// let tables = Tables::from_bytes(&mut room[from..][..Tables::SIZE])?;
+    /// assert_eq!(Attributes::with_tables("chunk id='c-17'", 5, tables).count(), 1);
+    /// # Ok::<(), LentError>(())
+    /// ```
+    pub fn from_bytes(bytes: &mut [MaybeUninit<u8>]) -> Result<&mut Self, LentError> {
+        let place = bytes.as_mut_ptr();
+        LentError::of_place(place.addr(), bytes.len(), Self::SIZE, Self::ALIGNMENT)?;
+        let tables: *mut Self = place.cast();
+        // SAFETY: size and alignment were just tested, and the memory is borrowed mutably for as long as
+        // the answer lives. The three parts that have to be set are set first; the others are of types
+        // that need not be, and so are the bytes when they come back.
+        unsafe {
+            (&raw mut (*tables).state).write([1, 0, 0]);
+            (&raw mut (*tables).before).write([1, 0, 0]);
+            (&raw mut (*tables).filled).write(0);
+            Ok(&mut *tables)
+        }
     }
 
     /// Memory in which a tag is read from `pos` on.
@@ -167,6 +209,7 @@ impl Tables {
     /// Reads at most so many answers. That there are fewer says that no more follow.
     #[inline]
     pub(crate) fn read(&mut self, tag: &[u8], html: bool, checks: bool, most: usize) -> usize {
+        agree();
         let most = most.min(BATCH);
         self.before = self.state;
         // SAFETY: each pointer is that of an array of ours with the length after it, `out` with no more
@@ -186,7 +229,7 @@ impl Tables {
                 html,
                 checks,
                 self.out.as_mut_ptr().cast(),
-                most * size_of::<Answer>() / size_of::<usize>(),
+                most * size_of::<Answer>() / NUMBER,
             )
         };
         // The number that says "a wrong length" is none that can come, since the lengths are right.
@@ -218,71 +261,123 @@ impl Tables {
     }
 
     /// The place of reading, to be shown.
-    pub(crate) const fn state(&self) -> [usize; 3] {
+    pub(crate) const fn state(&self) -> State {
         self.state
     }
 }
 
 /// The memory of a resolver, about 92 KB: the text of its bindings, a record for each, and four numbers.
 ///
-/// Only the library writes it, but for the limit.
+/// It stands where the caller wants it: in a box, in a static, on the stack, or in bytes that are lent. Only
+/// the library writes it, but for the limit.
+// The order is fixed and nothing is left between the parts or behind them: bytes become it and are bytes
+// again afterwards.
+#[repr(C)]
 pub struct Memory {
     text: [u8; TEXT],
     starts: [usize; RECORDS],
     prefix_lens: [usize; RECORDS],
     value_lens: [usize; RECORDS],
+    head: Head,
     levels: [u16; RECORDS],
-    /// Text used, number of records, level, limit.
-    head: [usize; 4],
+    unused: [u16; 2],
 }
 
-// One call of the library on a resolver's memory: `mut` where it changes it, `const` where it looks at it.
+const _: () = assert!(
+    Memory::SIZE
+        == TEXT + 3 * RECORDS * NUMBER + size_of::<Head>() + (RECORDS + 2) * size_of::<u16>()
+);
+
+// One call of the library on a resolver's memory: by `as_mut_ptr` where it changes it, by `as_ptr` where it
+// looks at it.
 macro_rules! call {
-    ($function:ident, $raw:tt $memory:expr, $head:ident $(, $more:expr)*) => {{
-        let memory = $memory;
-        // SAFETY: each pointer is that of a live array of its type, or of a live slice with the length
-        // after it. What the call writes is borrowed mutably here, and apart from everything else; the
-        // rest it only reads.
+    ($function:ident, $memory:ident.$pointer:ident() $(, $more:expr)*) => {
+        // SAFETY: each pointer is that of a live array of the length that the library has for it, or of a
+        // live slice with the length after it. What the call writes is borrowed mutably here, and apart
+        // from everything else; the rest it only reads.
         unsafe {
             library::$function(
-                &raw $raw memory.text,
-                &raw $raw memory.starts,
-                &raw $raw memory.prefix_lens,
-                &raw $raw memory.value_lens,
-                &raw $raw memory.levels,
-                memory.head.$head(),
-                memory.head.len(),
+                $memory.text.$pointer(),
+                $memory.starts.$pointer(),
+                $memory.prefix_lens.$pointer(),
+                $memory.value_lens.$pointer(),
+                $memory.levels.$pointer(),
+                $memory.head.$pointer(),
+                $memory.head.len(),
                 $($more),*
             )
         }
-    }};
+    };
 }
 
+// The layouts are compared in `fresh` and in `is_resolver`: there is no resolver in a memory before one of
+// them has had it.
 impl Memory {
-    /// The memory of a resolver with no declarations.
-    pub fn new() -> Box<Self> {
-        // SAFETY: numbers and arrays of numbers, for which zeros are a value. Nothing of this size is
-        // made elsewhere and moved.
-        let mut memory = unsafe { Box::<Memory>::new_zeroed().assume_init() };
-        memory.fresh();
-        memory
+    /// How many bytes the memory of a resolver has.
+    pub const SIZE: usize = size_of::<Self>();
+    /// Its address is a multiple of this.
+    pub const ALIGNMENT: usize = align_of::<Self>();
+
+    /// Memory with no resolver in it yet, for a static or for the stack.
+    #[inline]
+    pub const fn new() -> Self {
+        Memory {
+            text: [0; TEXT],
+            starts: [0; RECORDS],
+            prefix_lens: [0; RECORDS],
+            value_lens: [0; RECORDS],
+            head: [0; 4],
+            levels: [0; RECORDS],
+            unused: [0; 2],
+        }
+    }
+
+    /// The same in a box. Nothing of this size is made elsewhere and moved.
+    pub fn boxed() -> Box<Self> {
+        // SAFETY: numbers and arrays of numbers, for which zeros are a value.
+        unsafe { Box::new_zeroed().assume_init() }
+    }
+
+    /// Bytes as the memory of a resolver. They are left as they are: whether there is a resolver in them
+    /// is another question ([`NamespaceResolver::resume_in`](crate::name::NamespaceResolver::resume_in)).
+    pub fn from_bytes(bytes: &mut [u8]) -> Result<&mut Self, LentError> {
+        let place = bytes.as_mut_ptr();
+        LentError::of_place(place.addr(), bytes.len(), Self::SIZE, Self::ALIGNMENT)?;
+        // SAFETY: size and alignment were just tested, and the memory is borrowed mutably for as long as
+        // the answer lives. Any bytes are numbers, and there is none between or behind them, so that
+        // whatever is done with them leaves bytes.
+        Ok(unsafe { &mut *place.cast::<Self>() })
     }
 
     /// Forgets all declarations, and has the level 0 and the limit 128.
     pub(crate) fn fresh(&mut self) {
-        let answer = call!(mz_fresh, mut self, as_mut_ptr);
+        agree();
+        let answer = call!(mz_fresh, self.as_mut_ptr());
         assert_eq!(answer, 0, "the library's fresh resolver");
     }
 
-    pub(crate) fn copy(&self) -> Box<Self> {
-        let mut memory = Memory::new();
-        memory.text = self.text;
-        memory.starts = self.starts;
-        memory.prefix_lens = self.prefix_lens;
-        memory.value_lens = self.value_lens;
-        memory.levels = self.levels;
-        memory.head = self.head;
-        memory
+    /// Whether there is a resolver in it, by rule 20.
+    pub(crate) fn is_resolver(&self) -> bool {
+        agree();
+        // a place that no record has is the end, and 20 comes before it
+        self.binding(usize::MAX).0 == 0
+    }
+
+    /// The first record whose prefix or namespace is no text, where there is a resolver in it.
+    pub(crate) fn without_text(&self) -> Option<usize> {
+        (0..self.count()).find(|&record| {
+            let from = self.starts[record];
+            let (prefix, rest) = self.text[from..].split_at(self.prefix_lens[record]);
+            let value = &rest[..self.value_lens[record]];
+            str::from_utf8(prefix).is_err() || str::from_utf8(value).is_err()
+        })
+    }
+
+    /// Becomes the same as another.
+    pub(crate) fn copy(&mut self, other: &Self) {
+        // SAFETY: both are live, of one type that can be copied bit by bit, and apart, since this one is
+        // borrowed mutably.
+        unsafe { ptr::copy_nonoverlapping(other, self, 1) }
     }
 
     pub(crate) const fn text(&self) -> &[u8] {
@@ -308,14 +403,13 @@ impl Memory {
     }
 
     /// 0, or a refusal with its numbers; bounds are those in the prefix or the value.
-    pub(crate) fn add(&mut self, prefix: Option<&str>, value: &str) -> (usize, [usize; 2]) {
-        let mut detail = [0; 2];
+    pub(crate) fn add(&mut self, prefix: Option<&str>, value: &str) -> (usize, Detail) {
+        let mut detail: Detail = [0; 2];
         let named = prefix.is_some();
         let prefix = prefix.unwrap_or_default();
         let answer = call!(
             mz_add,
-            mut self,
-            as_mut_ptr,
+            self.as_mut_ptr(),
             named,
             prefix.as_ptr(),
             prefix.len(),
@@ -328,13 +422,12 @@ impl Memory {
     }
 
     /// 0, or a refusal with its numbers; bounds are those in the tag.
-    pub(crate) fn push(&mut self, tag: &str, at: usize) -> (usize, [usize; 2]) {
-        let mut detail = [0; 2];
+    pub(crate) fn push(&mut self, tag: &str, at: usize) -> (usize, Detail) {
+        let mut detail: Detail = [0; 2];
         let (to, len) = (detail.as_mut_ptr(), detail.len());
         let answer = call!(
             mz_push,
-            mut self,
-            as_mut_ptr,
+            self.as_mut_ptr(),
             tag.as_ptr(),
             tag.len(),
             at,
@@ -345,21 +438,20 @@ impl Memory {
     }
 
     pub(crate) fn pop(&mut self) -> usize {
-        call!(mz_pop, mut self, as_mut_ptr)
+        call!(mz_pop, self.as_mut_ptr())
     }
 
     pub(crate) fn set_level(&mut self, level: u16) -> usize {
-        call!(mz_set_level, mut self, as_mut_ptr, level)
+        call!(mz_set_level, self.as_mut_ptr(), level)
     }
 
     /// 0 unbound, 1 bound, with the URI's bounds in the text, 2 unknown, with the prefix's in the name.
-    pub(crate) fn resolve(&self, name: &str, use_default: bool) -> (usize, [usize; 2]) {
-        let mut detail = [0; 2];
+    pub(crate) fn resolve(&self, name: &str, use_default: bool) -> (usize, Detail) {
+        let mut detail: Detail = [0; 2];
         let (to, len) = (detail.as_mut_ptr(), detail.len());
         let answer = call!(
             mz_resolve,
-            const self,
-            as_ptr,
+            self.as_ptr(),
             name.as_ptr(),
             name.len(),
             use_default,
@@ -369,20 +461,118 @@ impl Memory {
         (answer, detail)
     }
 
+    /// The same for many names of a tag, each by its bounds, of which the first `elements` want the
+    /// default. There is room for as many answers as there are names.
+    pub(crate) fn resolve_all(
+        &self,
+        tag: &str,
+        [from, to]: [&[usize]; 2],
+        elements: usize,
+        answers: &mut Answers,
+    ) -> usize {
+        let Answers {
+            kinds,
+            begins,
+            ends,
+        } = answers;
+        let (kinds, begins, ends) = (
+            &mut kinds[..from.len()],
+            &mut begins[..from.len()],
+            &mut ends[..from.len()],
+        );
+        call!(
+            mz_resolve_all,
+            self.as_ptr(),
+            tag.as_ptr(),
+            tag.len(),
+            from.as_ptr(),
+            from.len(),
+            to.as_ptr(),
+            to.len(),
+            elements,
+            kinds.as_mut_ptr(),
+            kinds.len(),
+            begins.as_mut_ptr(),
+            begins.len(),
+            ends.as_mut_ptr(),
+            ends.len()
+        )
+    }
+
     /// 0 the end, 1 a default, 2 a named one, with the bounds of prefix and value in the text and the
     /// next place.
-    pub(crate) fn binding(&self, place: usize) -> (usize, [usize; 5]) {
-        let mut detail = [0; 5];
+    pub(crate) fn binding(&self, place: usize) -> (usize, Listed) {
+        let mut detail: Listed = [0; 5];
         let (to, len) = (detail.as_mut_ptr(), detail.len());
-        let answer = call!(mz_binding, const self, as_ptr, place, to, len);
+        let answer = call!(mz_binding, self.as_ptr(), place, to, len);
         (answer, detail)
     }
 
     /// The same for one level.
-    pub(crate) fn binding_of(&self, level: u16, place: usize) -> (usize, [usize; 5]) {
-        let mut detail = [0; 5];
+    pub(crate) fn binding_of(&self, level: u16, place: usize) -> (usize, Listed) {
+        let mut detail: Listed = [0; 5];
         let (to, len) = (detail.as_mut_ptr(), detail.len());
-        let answer = call!(mz_binding_of, const self, as_ptr, level, place, to, len);
+        let answer = call!(mz_binding_of, self.as_ptr(), level, place, to, len);
         (answer, detail)
+    }
+}
+
+/// What `resolve` answers, for many names.
+#[derive(Clone)]
+pub struct Answers {
+    kinds: [usize; NAMES],
+    begins: [usize; NAMES],
+    ends: [usize; NAMES],
+}
+
+impl Answers {
+    /// Room for them.
+    pub const fn new() -> Self {
+        Answers {
+            kinds: [0; NAMES],
+            begins: [0; NAMES],
+            ends: [0; NAMES],
+        }
+    }
+
+    /// One of them.
+    pub const fn get(&self, index: usize) -> (usize, Detail) {
+        (self.kinds[index], [self.begins[index], self.ends[index]])
+    }
+}
+
+impl Default for Memory {
+    fn default() -> Self {
+        Memory::new()
+    }
+}
+
+impl Debug for Memory {
+    fn fmt(&self, f: &mut Formatter) -> fmt::Result {
+        let [text, records, level, limit] = self.head;
+        f.debug_struct("Memory")
+            .field("text", &text)
+            .field("records", &records)
+            .field("level", &level)
+            .field("limit", &limit)
+            .finish()
+    }
+}
+
+#[cfg(test)]
+mod tests {
+    use super::{LAYOUT, differences, library};
+
+    #[test]
+    fn another_layout_is_named_with_both_numbers() {
+        assert_eq!(differences(|what| library::mz_layout(what)), "");
+        assert_eq!(differences(|what| LAYOUT[what].1), "");
+        for (number, (what, ours)) in LAYOUT.iter().enumerate() {
+            let other = |asked: usize| LAYOUT[asked].1 + usize::from(asked == number);
+            let said = format!("{what}: {} in the library, {ours} in the crate", ours + 1);
+            assert_eq!(differences(other), said);
+        }
+        // a library that knows of none of them
+        assert_eq!(differences(|_| 0).matches(": 0 in the library").count(), 12);
     }
 }

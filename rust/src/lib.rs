@@ -20,12 +20,22 @@
 //! refusals that quick-xml does not have say when a table is full or is none of the library's
 //! ([`AttrError`](events::attributes::AttrError), [`NamespaceError`](name::NamespaceError)).
 //!
+//! The memory can be the caller's own: a resolver's is lent by
+//! [`NamespaceResolver::new_in`](name::NamespaceResolver::new_in), a reader's by
+//! [`Attributes::with_tables`](events::attributes::Attributes::with_tables). Before the library is lent any
+//! it is asked for its layout, and another one than this crate's is a panic that says what differs.
+//!
 //! Normalisation of values and escapes are not part of it: values are those that stand in the tag.
 
 #![deny(unsafe_code)]
 
 pub mod events;
-// The boundary: the one place where memory is handed to code that Rust doesn't check.
+// The boundary: the one place where memory is handed to code that Rust doesn't check, and the declarations.
 #[allow(unsafe_code)]
 mod ffi;
+mod lent;
+#[allow(unsafe_code)]
+mod library;
 pub mod name;
+
+pub use lent::LentError;

@@ -199,7 +199,7 @@ fn room_that_a_pop_frees_is_used_again() {
 
 #[test]
 fn memory_that_is_given() {
-    let mut memory = Memory::new();
+    let mut memory = Memory::boxed();
     for value in ["urn:a", "urn:b"] {
         let place = std::ptr::from_ref(&*memory);
         let mut resolver = NamespaceResolver::new_in(memory);

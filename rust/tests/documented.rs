@@ -9,8 +9,9 @@ use std::borrow::Cow;
 use xml::events::BytesStart;
 use xml::events::attributes::{Attr, AttrError, Attribute, Attributes};
 use xml::name::{
-    DEFAULT_MAX_NAMESPACE_BINDINGS, LocalName, Namespace, NamespaceError, NamespaceResolver,
-    PrefixDeclaration, QName, ResolveResult,
+    DEFAULT_MAX_NAMESPACE_BINDINGS, LocalName, Namespace, NamespaceBindingsIter,
+    NamespaceBindingsOfLevelIter, NamespaceError, NamespaceResolver, PrefixDeclaration, QName,
+    ResolveResult,
 };
 
 const XML: &str = "http://www.w3.org/XML/1998/namespace";
@@ -804,6 +805,45 @@ mod scopes {
         assert_eq!(element(&resolver, "x"), ResolveResult::Unbound);
         copy.pop();
         assert_eq!(element(&copy, "x"), bound("1"));
+    }
+
+    /// A reader of the program's own, with the resolver's type as it is written without any parameter.
+    #[derive(Clone, Debug, Default)]
+    struct Reader {
+        resolver: NamespaceResolver,
+    }
+
+    impl Reader {
+        const fn depth(&self) -> (u16, usize) {
+            let resolver = &self.resolver;
+            (resolver.level(), resolver.max_namespace_bindings())
+        }
+
+        const fn listed(&self) -> (NamespaceBindingsIter<'_>, NamespaceBindingsOfLevelIter<'_>) {
+            (self.resolver.bindings(), self.resolver.bindings_of(1))
+        }
+    }
+
+    #[test]
+    fn a_resolver_in_the_programs_own_types() {
+        let mut reader = Reader::default();
+        reader
+            .resolver
+            .push(&tag("a xmlns='1' xmlns:p='2'"))
+            .unwrap();
+        assert_eq!(reader.depth(), (1, DEFAULT_MAX_NAMESPACE_BINDINGS));
+        let (bindings, of_level) = reader.listed();
+        assert_eq!((bindings.count(), of_level.count()), (2, 2));
+        // taken by value, by type and as a function
+        let taken = std::mem::take(&mut reader.resolver);
+        assert_eq!(element(&taken, "x"), bound("1"));
+        let mut others: Vec<Option<Box<NamespaceResolver>>> = vec![None, Some(Box::new(taken))];
+        let resolve: fn(&NamespaceResolver, &str) -> bool =
+            |resolver, name| resolver.resolve_element(QName(name)).0 == bound("2");
+        assert!(others.pop().flatten().is_some_and(|it| resolve(&it, "p:x")));
+        let has_nil = Attributes::has_nil;
+        assert!(!has_nil(&mut Attributes::new("", 0), &reader.resolver));
+        assert!(!Attributes::new("a", 0).has_nil(&NamespaceResolver::default()));
     }
 
     #[test]

@@ -1,7 +1,7 @@
 //! The attributes of a tag, one after another.
 
 use crate::ffi::{Answer, BATCH};
-use crate::name::{NamespaceResolver, QName, ResolveResult};
+use crate::name::{Holder, NamespaceResolver, QName, ResolveResult};
 use std::borrow::{BorrowMut, Cow};
 use std::error::Error;
 use std::fmt::{self, Debug, Display, Formatter};
@@ -365,7 +365,7 @@ impl<T: BorrowMut<Tables>> Attributes<'_, T> {
 
     /// Whether one of the attributes that are left is `nil` in the namespace of XML Schema instances, with
     /// a yes for its value. What is wrong in the tag counts as a no. Reading stops after a yes.
-    pub fn has_nil(&mut self, resolver: &NamespaceResolver) -> bool {
+    pub fn has_nil<M: Holder>(&mut self, resolver: &NamespaceResolver<M>) -> bool {
         self.any(|attribute| {
             // names are resolved last, since that costs the most and changes nothing
             attribute.is_ok_and(|attribute| {
@@ -443,6 +443,14 @@ impl<'a, 't> ByteAttributes<'a, &'t mut Tables> {
     pub fn with_tables(buf: &'a [u8], pos: usize, tables: &'t mut Tables) -> Self {
         tables.open(pos);
         let state = IterState::new(tables, false);
+        ByteAttributes { buf, state }
+    }
+
+    /// As [`html`](ByteAttributes::html), in memory of the caller's own.
+    #[inline]
+    pub fn html_with_tables(buf: &'a [u8], pos: usize, tables: &'t mut Tables) -> Self {
+        tables.open(pos);
+        let state = IterState::new(tables, true);
         ByteAttributes { buf, state }
     }
 }

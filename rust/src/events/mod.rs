@@ -3,7 +3,7 @@
 pub mod attributes;
 
 use crate::name::{LocalName, QName};
-use attributes::{AttrError, Attribute, Attributes};
+use attributes::{AttrError, Attribute, Attributes, Tables};
 use std::borrow::Cow;
 use std::ops::Deref;
 
@@ -75,6 +75,24 @@ impl<'i> BytesStart<'i> {
     #[inline]
     pub fn html_attributes(&self) -> Attributes<'_> {
         Attributes::html(&self.buf, self.name_len)
+    }
+
+    /// As [`attributes`](Self::attributes), in memory of the caller's own.
+    #[inline]
+    pub fn attributes_with_tables<'t>(
+        &self,
+        tables: &'t mut Tables,
+    ) -> Attributes<'_, &'t mut Tables> {
+        Attributes::with_tables(&self.buf, self.name_len, tables)
+    }
+
+    /// As [`html_attributes`](Self::html_attributes), in memory of the caller's own.
+    #[inline]
+    pub fn html_attributes_with_tables<'t>(
+        &self,
+        tables: &'t mut Tables,
+    ) -> Attributes<'_, &'t mut Tables> {
+        Attributes::html_with_tables(&self.buf, self.name_len, tables)
     }
 
     /// What follows the name, as it stands.

@@ -9,8 +9,8 @@ use std::fmt::{self, Debug, Display, Formatter};
 use std::hash::{Hash, Hasher};
 
 pub use resolver::{
-    DEFAULT_MAX_NAMESPACE_BINDINGS, Memory, NamespaceBindingsIter, NamespaceBindingsOfLevelIter,
-    NamespaceResolver,
+    DEFAULT_MAX_NAMESPACE_BINDINGS, Holder, Memory, NamespaceBindingsIter,
+    NamespaceBindingsOfLevelIter, NamespaceResolver, ResolvedNames,
 };
 
 /// A declaration that isn't accepted, or a prefix that none declares.
@@ -37,8 +37,9 @@ pub enum NamespaceError {
     /// More text than the memory of a resolver holds: 65,536 bytes of prefixes and namespaces. quick-xml
     /// doesn't have this.
     TextFull,
-    /// The memory is not that of a resolver. [`NamespaceResolver`] keeps its memory to itself, so it
-    /// doesn't come here; quick-xml doesn't have it.
+    /// The memory is not that of a resolver. Memory is looked at before it is a resolver's
+    /// ([`NamespaceResolver::resume_in`]) and the library alone writes it then, so it doesn't come here;
+    /// quick-xml doesn't have it.
     BadResolver,
 }
 

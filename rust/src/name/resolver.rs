@@ -3,7 +3,10 @@
 use super::{
     LocalName, Namespace, NamespaceError, Prefix, PrefixDeclaration, QName, ResolveResult,
 };
+use crate::LentError;
 use crate::events::BytesStart;
+use crate::ffi::{Answers, NAMES};
+use std::borrow::BorrowMut;
 use std::fmt::{self, Debug, Formatter};
 use std::iter::FusedIterator;
 
@@ -14,8 +17,8 @@ pub const DEFAULT_MAX_NAMESPACE_BINDINGS: usize = 128;
 
 /// The bindings that hold at a place of a document.
 ///
-/// Its memory has a fixed size, about 92 KB, and stays where it was allocated. 1,024 bindings fit in it
-/// and 65,536 bytes of text; of the text the built-in bindings have 73.
+/// Its memory has a fixed size, about 92 KB, and stays where it is. 1,024 bindings fit in it and 65,536
+/// bytes of text; of the text the built-in bindings have 73.
 ///
 /// ```
 /// use mezzulidda::events::BytesStart;
@@ -28,8 +31,43 @@ pub const DEFAULT_MAX_NAMESPACE_BINDINGS: usize = 128;
 /// resolver.pop();
 /// assert_eq!(resolver.resolve_element(QName("chunk")).0, ResolveResult::Unbound);
 /// ```
-pub struct NamespaceResolver {
-    memory: Box<Memory>,
+///
+/// By default the memory is a box. It can be lent instead, from wherever the caller has it:
+///
+/// ```
+/// use mezzulidda::name::{Memory, NamespaceResolver};
+/// use std::sync::Mutex;
+///
+/// // on the stack
+/// let mut memory = Memory::new();
+/// let resolver = NamespaceResolver::new_in(&mut memory);
+/// assert_eq!(resolver.level(), 0);
+///
+/// // in a static
+/// static MEMORY: Mutex<Memory> = Mutex::new(Memory::new());
+/// let mut memory = MEMORY.lock().unwrap();
+/// let resolver = NamespaceResolver::new_in(&mut *memory);
+/// assert_eq!(resolver.level(), 0);
+/// ```
+pub struct NamespaceResolver<M = Box<Memory>> {
+    memory: M,
+}
+
+/// What a resolver's memory is held by: a box, or a borrow of it.
+///
+/// No other type has it, so that nothing but the library writes a resolver's memory.
+pub trait Holder: BorrowMut<Memory> + held::Sealed {}
+
+impl Holder for Box<Memory> {}
+impl Holder for &mut Memory {}
+
+mod held {
+    use super::Memory;
+
+    pub trait Sealed {}
+
+    impl Sealed for Box<Memory> {}
+    impl Sealed for &mut Memory {}
 }
 
 /// An answer that the library has for memory that is no resolver's (20), or for lengths that aren't
@@ -39,15 +77,89 @@ fn impossible(answer: usize) -> ! {
     unreachable!("the library answered {answer} on memory of its own")
 }
 
-impl NamespaceResolver {
+// What quick-xml has as `const`: no trait can be asked there, so each holder has its own.
+macro_rules! read_by {
+    ($($holder:ty),*) => { $(
+        impl NamespaceResolver<$holder> {
+            /// How many scopes were begun and not ended.
+            pub const fn level(&self) -> u16 {
+                self.memory.level()
+            }
+
+            /// How many bindings are accepted, the two built-in ones not counted.
+            #[inline]
+            pub const fn max_namespace_bindings(&self) -> usize {
+                self.memory.limit()
+            }
+
+            /// The bindings that hold, without the built-in ones, in the order in which they were
+            /// declared.
+            #[inline]
+            pub const fn bindings(&self) -> NamespaceBindingsIter<'_> {
+                NamespaceBindingsIter {
+                    memory: &self.memory,
+                    place: 2,
+                }
+            }
+
+            /// The bindings that were declared at a level, also where a later one hides them. The
+            /// built-in ones are at level 0.
+            pub const fn bindings_of(&self, level: u16) -> NamespaceBindingsOfLevelIter<'_> {
+                NamespaceBindingsOfLevelIter {
+                    memory: &self.memory,
+                    place: 0,
+                    level,
+                }
+            }
+        }
+    )* };
+}
+read_by!(Box<Memory>, &mut Memory);
+
+impl<M: Holder> NamespaceResolver<M> {
     /// A resolver with no declarations, in memory that is given. What the memory held is forgotten.
-    pub fn new_in(mut memory: Box<Memory>) -> Self {
-        memory.fresh();
+    pub fn new_in(mut memory: M) -> Self {
+        memory.borrow_mut().fresh();
+        NamespaceResolver { memory }
+    }
+
+    /// The resolver that an earlier one left in this memory, as it was. The memory may hold anything: it
+    /// is looked at first, by the same test that every call makes, and left as it is. A box that is refused
+    /// is freed; whoever wants to keep it lends it.
+    ///
+    /// ```
+    /// use mezzulidda::LentError;
+    /// use mezzulidda::events::BytesStart;
+    /// use mezzulidda::name::{Memory, NamespaceResolver};
+    ///
+    /// let mut memory = Memory::new();
+    /// assert_eq!(NamespaceResolver::resume_in(&mut memory).err(), Some(LentError::NoResolver));
+    ///
+    /// let mut resolver = NamespaceResolver::new_in(&mut memory);
+    /// resolver.push(&BytesStart::from_content("volume xmlns='urn:a'", 6)).unwrap();
+    /// let resolver = NamespaceResolver::resume_in(&mut memory)?;
+    /// assert_eq!(resolver.level(), 1);
+    /// # Ok::<(), LentError>(())
+    /// ```
+    pub fn resume_in(memory: M) -> Result<Self, LentError> {
+        if !memory.borrow().is_resolver() {
+            return Err(LentError::NoResolver);
+        }
+        // rule 20 is about bytes, and what is handed out here is text
+        match memory.borrow().without_text() {
+            Some(binding) => Err(LentError::NoText(binding)),
+            None => Ok(NamespaceResolver { memory }),
+        }
+    }
+
+    /// The same resolver in other memory.
+    pub fn copy_in<N: Holder>(&self, mut memory: N) -> NamespaceResolver<N> {
+        memory.borrow_mut().copy(self.memory.borrow());
         NamespaceResolver { memory }
     }
 
     /// The memory, for another resolver.
-    pub fn into_memory(self) -> Box<Memory> {
+    pub fn into_memory(self) -> M {
         self.memory
     }
 
@@ -63,7 +175,7 @@ impl NamespaceResolver {
             PrefixDeclaration::Default => None,
             PrefixDeclaration::Named(prefix) => Some(prefix),
         };
-        let (answer, detail) = self.memory.add(prefix, namespace.0);
+        let (answer, detail) = self.memory.borrow_mut().add(prefix, namespace.0);
         let named = prefix.unwrap_or_default();
         refusal(answer, detail, namespace.0, named)
     }
@@ -73,7 +185,7 @@ impl NamespaceResolver {
     /// The tag is read in XML mode up to the first thing that is wrong in it. Where a declaration is
     /// refused those before it stay, and so does the level.
     pub fn push(&mut self, start: &BytesStart) -> Result<(), NamespaceError> {
-        let (answer, detail) = self.memory.push(start, start.name_len());
+        let (answer, detail) = self.memory.borrow_mut().push(start, start.name_len());
         refusal(answer, detail, start, start)
     }
 
@@ -81,7 +193,7 @@ impl NamespaceResolver {
     /// none to end.
     #[inline]
     pub fn pop(&mut self) {
-        match self.memory.pop() {
+        match self.memory.borrow_mut().pop() {
             0 => (),
             answer => impossible(answer),
         }
@@ -89,27 +201,16 @@ impl NamespaceResolver {
 
     /// Goes to a level. Bindings of levels above it are dropped.
     pub fn set_level(&mut self, level: u16) {
-        match self.memory.set_level(level) {
+        match self.memory.borrow_mut().set_level(level) {
             0 => (),
             answer => impossible(answer),
         }
     }
 
-    /// How many scopes were begun and not ended.
-    pub const fn level(&self) -> u16 {
-        self.memory.level()
-    }
-
-    /// How many bindings are accepted, the two built-in ones not counted.
-    #[inline]
-    pub const fn max_namespace_bindings(&self) -> usize {
-        self.memory.limit()
-    }
-
     /// Sets how many bindings are accepted. None is dropped; more than 1,024 don't fit, whatever is set.
     #[inline]
-    pub const fn set_max_namespace_bindings(&mut self, limit: usize) -> &mut Self {
-        self.memory.set_limit(limit);
+    pub fn set_max_namespace_bindings(&mut self, limit: usize) -> &mut Self {
+        self.memory.borrow_mut().set_limit(limit);
         self
     }
 
@@ -144,50 +245,83 @@ impl NamespaceResolver {
     }
 
     fn resolved(&self, name: &str, use_default: bool) -> ResolveResult<'_> {
-        let (answer, [from, to]) = self.memory.resolve(name, use_default);
-        match answer {
-            0 => ResolveResult::Unbound,
-            1 => ResolveResult::Bound(Namespace(self.text(from, to))),
-            2 => ResolveResult::Unknown(name[from..to].to_string()),
-            _ => impossible(answer),
+        let memory = self.memory.borrow();
+        resolved(memory, name, memory.resolve(name, use_default))
+    }
+
+    /// The namespace of a tag's own name, and then those of names that stand in the tag, as the keys of
+    /// its attributes do: each is what [`resolve_element`](Self::resolve_element) answers for the first
+    /// and [`resolve_attribute`](Self::resolve_attribute) for the others.
+    ///
+    /// The memory is tested once for 32 names where each of these tests it anew, which is most of what
+    /// they cost.
+    ///
+    /// ```
+    /// use mezzulidda::events::BytesStart;
+    /// use mezzulidda::name::{Namespace, NamespaceResolver, ResolveResult};
+    ///
+    /// let tag = BytesStart::from_content("v:chunk xmlns:v='urn:b' v:id='c-17' id='17'", 7);
+    /// let mut resolver = NamespaceResolver::default();
+    /// resolver.push(&tag).unwrap();
+    /// let keys: Vec<_> = tag.attributes().skip(1).map(|a| a.unwrap().key).collect();
+    /// let names: Vec<_> = resolver.resolve_all(&tag, &keys).map(|(namespace, _)| namespace).collect();
+    /// let bound = ResolveResult::Bound(Namespace("urn:b"));
+    /// assert_eq!(names, [bound.clone(), bound, ResolveResult::Unbound]);
+    /// ```
+    ///
+    /// # Panics
+    ///
+    /// Where [`BytesStart::name`] does.
+    pub fn resolve_all<'r, 'n>(
+        &'r self,
+        start: &'n BytesStart,
+        keys: &'n [QName<'n>],
+    ) -> ResolvedNames<'r, 'n> {
+        ResolvedNames {
+            memory: self.memory.borrow(),
+            tag: start,
+            own: Some(start.name()),
+            keys,
+            answers: Answers::new(),
+            taken: 0,
+            filled: 0,
         }
     }
+}
 
-    /// The bindings that hold, without the built-in ones, in the order in which they were declared.
-    #[inline]
-    pub const fn bindings(&self) -> NamespaceBindingsIter<'_> {
-        NamespaceBindingsIter {
-            resolver: self,
-            place: 2,
-        }
-    }
+/// A part of the text of the bindings.
+fn text(memory: &Memory, from: usize, to: usize) -> &str {
+    // what was added is text, cut beside `=`, quotes and whitespace, and what was resumed was looked at
+    str::from_utf8(&memory.text()[from..to]).expect("prefixes and namespaces are text")
+}
 
-    /// The bindings that were declared at a level, also where a later one hides them. The built-in ones
-    /// are at level 0.
-    pub const fn bindings_of(&self, level: u16) -> NamespaceBindingsOfLevelIter<'_> {
-        NamespaceBindingsOfLevelIter {
-            resolver: self,
-            place: 0,
-            level,
-        }
+/// What the library answers for a name.
+fn resolved<'r>(
+    memory: &'r Memory,
+    name: &str,
+    (answer, [from, to]): (usize, [usize; 2]),
+) -> ResolveResult<'r> {
+    match answer {
+        0 => ResolveResult::Unbound,
+        1 => ResolveResult::Bound(Namespace(text(memory, from, to))),
+        2 => ResolveResult::Unknown(name[from..to].to_string()),
+        _ => impossible(answer),
     }
+}
 
-    /// A part of the text of the bindings.
-    fn text(&self, from: usize, to: usize) -> &str {
-        // what was added is text, cut beside `=`, quotes and whitespace
-        str::from_utf8(&self.memory.text()[from..to]).expect("prefixes and namespaces are text")
-    }
-
-    /// What a listing shows of one record.
-    fn shown(&self, kind: usize, detail: [usize; 5]) -> (PrefixDeclaration<'_>, Namespace<'_>) {
-        let [prefix_from, prefix_to, from, to, _] = detail;
-        let prefix = match kind {
-            1 => PrefixDeclaration::Default,
-            2 => PrefixDeclaration::Named(self.text(prefix_from, prefix_to)),
-            _ => impossible(kind),
-        };
-        (prefix, Namespace(self.text(from, to)))
-    }
+/// What a listing shows of one record.
+fn shown(
+    memory: &Memory,
+    kind: usize,
+    detail: [usize; 5],
+) -> (PrefixDeclaration<'_>, Namespace<'_>) {
+    let [prefix_from, prefix_to, from, to, _] = detail;
+    let prefix = match kind {
+        1 => PrefixDeclaration::Default,
+        2 => PrefixDeclaration::Named(text(memory, prefix_from, prefix_to)),
+        _ => impossible(kind),
+    };
+    (prefix, Namespace(text(memory, from, to)))
 }
 
 /// The library's answer to a declaration, with the texts that its bounds are of.
@@ -214,27 +348,108 @@ fn refusal(
 
 impl Default for NamespaceResolver {
     fn default() -> Self {
-        NamespaceResolver {
-            memory: Memory::new(),
-        }
+        NamespaceResolver::new_in(Memory::boxed())
     }
 }
 
 impl Clone for NamespaceResolver {
     fn clone(&self) -> Self {
-        NamespaceResolver {
-            memory: self.memory.copy(),
+        self.copy_in(Memory::boxed())
+    }
+}
+
+impl<M: Holder> Debug for NamespaceResolver<M> {
+    fn fmt(&self, f: &mut Formatter) -> fmt::Result {
+        let memory = self.memory.borrow();
+        let bindings: Vec<_> = NamespaceBindingsIter { memory, place: 2 }.collect();
+        f.debug_struct("NamespaceResolver")
+            .field("level", &memory.level())
+            .field("max_namespace_bindings", &memory.limit())
+            .field("bindings", &bindings)
+            .finish()
+    }
+}
+
+/// The namespaces of a tag's names: see [`NamespaceResolver::resolve_all`].
+#[derive(Clone)]
+pub struct ResolvedNames<'r, 'n> {
+    memory: &'r Memory,
+    tag: &'n str,
+    /// The tag's own name until it was handed out, and the names after it that were not.
+    own: Option<QName<'n>>,
+    keys: &'n [QName<'n>],
+    /// Answers for the first of them, and how many of these were handed out.
+    answers: Answers,
+    taken: usize,
+    filled: usize,
+}
+
+impl<'n> ResolvedNames<'_, 'n> {
+    /// Asks for the names that follow, as far as they stand in the tag.
+    fn fill(&mut self) {
+        let mut bounds = [[0; NAMES]; 2];
+        let names = self.own.iter().chain(self.keys).take(NAMES);
+        let inside = names.map_while(|name| place_in(self.tag, name.0));
+        let mut count = 0;
+        for (from, to) in inside {
+            bounds[0][count] = from;
+            bounds[1][count] = to;
+            count += 1;
+        }
+        let bounds = bounds.each_ref().map(|numbers| &numbers[..count]);
+        let elements = usize::from(self.own.is_some());
+        match self
+            .memory
+            .resolve_all(self.tag, bounds, elements, &mut self.answers)
+        {
+            0 => (self.taken, self.filled) = (0, count),
+            answer => impossible(answer),
         }
     }
 }
 
-impl Debug for NamespaceResolver {
+/// Where a name stands in a tag, if its bytes are bytes of the tag.
+fn place_in(tag: &str, name: &str) -> Option<(usize, usize)> {
+    let from = name.as_ptr().addr().checked_sub(tag.as_ptr().addr())?;
+    let to = from.checked_add(name.len())?;
+    (to <= tag.len()).then_some((from, to))
+}
+
+impl<'r, 'n> Iterator for ResolvedNames<'r, 'n> {
+    type Item = (ResolveResult<'r>, LocalName<'n>);
+
+    fn next(&mut self) -> Option<Self::Item> {
+        let name = *self.own.as_ref().or(self.keys.first())?;
+        if self.taken == self.filled {
+            self.fill();
+        }
+        let answer = if self.taken < self.filled {
+            self.taken += 1;
+            self.answers.get(self.taken - 1)
+        } else {
+            // a name of another tag is asked for alone
+            self.memory.resolve(name.0, self.own.is_some())
+        };
+        if self.own.take().is_none() {
+            self.keys = &self.keys[1..];
+        }
+        Some((resolved(self.memory, name.0, answer), name.local_name()))
+    }
+
+    fn size_hint(&self) -> (usize, Option<usize>) {
+        let left = usize::from(self.own.is_some()) + self.keys.len();
+        (left, Some(left))
+    }
+}
+
+impl ExactSizeIterator for ResolvedNames<'_, '_> {}
+impl FusedIterator for ResolvedNames<'_, '_> {}
+
+impl Debug for ResolvedNames<'_, '_> {
     fn fmt(&self, f: &mut Formatter) -> fmt::Result {
-        let bindings: Vec<_> = self.bindings().collect();
-        f.debug_struct("NamespaceResolver")
-            .field("level", &self.level())
-            .field("max_namespace_bindings", &self.max_namespace_bindings())
-            .field("bindings", &bindings)
+        f.debug_struct("ResolvedNames")
+            .field("own", &self.own)
+            .field("keys", &self.keys)
             .finish()
     }
 }
@@ -242,7 +457,7 @@ impl Debug for NamespaceResolver {
 /// The bindings that hold: see [`NamespaceResolver::bindings`].
 #[derive(Debug, Clone)]
 pub struct NamespaceBindingsIter<'a> {
-    resolver: &'a NamespaceResolver,
+    memory: &'a Memory,
     place: usize,
 }
 
@@ -250,16 +465,16 @@ impl<'a> Iterator for NamespaceBindingsIter<'a> {
     type Item = (PrefixDeclaration<'a>, Namespace<'a>);
 
     fn next(&mut self) -> Option<Self::Item> {
-        let (kind, detail) = self.resolver.memory.binding(self.place);
+        let (kind, detail) = self.memory.binding(self.place);
         if kind == 0 {
             return None;
         }
         self.place = detail[4];
-        Some(self.resolver.shown(kind, detail))
+        Some(shown(self.memory, kind, detail))
     }
 
     fn size_hint(&self) -> (usize, Option<usize>) {
-        (0, Some(self.resolver.memory.count() - self.place))
+        (0, Some(self.memory.count() - self.place))
     }
 }
 
@@ -268,7 +483,7 @@ impl FusedIterator for NamespaceBindingsIter<'_> {}
 /// The bindings of a level: see [`NamespaceResolver::bindings_of`].
 #[derive(Debug, Clone)]
 pub struct NamespaceBindingsOfLevelIter<'a> {
-    resolver: &'a NamespaceResolver,
+    memory: &'a Memory,
     place: usize,
     level: u16,
 }
@@ -277,16 +492,16 @@ impl<'a> Iterator for NamespaceBindingsOfLevelIter<'a> {
     type Item = (PrefixDeclaration<'a>, Namespace<'a>);
 
     fn next(&mut self) -> Option<Self::Item> {
-        let (kind, detail) = self.resolver.memory.binding_of(self.level, self.place);
+        let (kind, detail) = self.memory.binding_of(self.level, self.place);
         if kind == 0 {
             return None;
         }
         self.place = detail[4];
-        Some(self.resolver.shown(kind, detail))
+        Some(shown(self.memory, kind, detail))
     }
 
     fn size_hint(&self) -> (usize, Option<usize>) {
-        (0, Some(self.resolver.memory.count() - self.place))
+        (0, Some(self.memory.count() - self.place))
     }
 }
 

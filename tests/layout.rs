@@ -1,0 +1,21 @@
+//! A program that is linked with a library of another layout: its own `mz_layout` stands for that. Whatever
+//! it does first with memory, the crate has to refuse; the word says what.
+
+use mezzulidda::events::attributes::Attributes;
+use mezzulidda::name::{Memory, NamespaceResolver};
+
+const LAYOUT: [usize; 12] = [256, 3, 5, 65_535, 1_026, 4, 2, 5, 8, 8, 2, 4];
+
+#[unsafe(no_mangle)]
+extern "C" fn mz_layout(what: usize) -> usize {
+    LAYOUT.get(what).copied().unwrap_or(0)
+}
+
+fn main() {
+    match std::env::args().nth(1).as_deref() {
+        Some("tag") => drop(Attributes::new("a b=''", 1).next()),
+        Some("new") => drop(NamespaceResolver::default()),
+        Some("resume") => drop(NamespaceResolver::resume_in(Memory::boxed())),
+        _ => std::process::exit(2),
+    }
+}
