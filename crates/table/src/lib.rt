@@ -196,7 +196,7 @@ fn clear_levels(t: &mut Levels, from: usize, to: usize)
 
 // Whether the text is zero from `from` on. All bytes go into one by `|`, with no early exit, so that LLVM makes a vector
 // loop of it: this is most of what the test of a resolver costs. That loop begins at a multiple of 16 bytes, since a vector
-// that lies across two lines of the cache is loaded at half the speed.
+// that lies across two lines of the cache takes longer to load.
 fn zero_text(t: &Text, from: usize) -> bool
     requires { ⌜ (length (now t) ≡ TEXT) × (from ≤ TEXT) ⌝ }
     ensures { λ r. ⌜ r ≡ allZero (drop from (now (t .entry))) ⌝ }
