@@ -94,7 +94,7 @@ module _ {M : Type 1} (𝓤 : URA M) (H : Heap 𝓤) (A : Atoms 𝓤) (mem : Mem
   scope-exports-mz-layout κs a g y z = alone 𝓤 _ y z refl
 
   pub scope-exports-mz-resolve-all : Settled 𝓤 scope-exports·mz-resolve-all.ended (scope-exports·mz-resolve-all.clauses 𝓤 H A mem run)
-  scope-exports-mz-resolve-all κs a g y z = read-off 𝓤 (λ (x : Names). (x .result, (tt, (tt, (tt, (tt, (tt, (tt, (tt, (tt, (tt, (tt, (x .kinds, (x .begins, (x .ends, tt))))))))))))))
+  scope-exports-mz-resolve-all κs a g y z = read-off 𝓤 (λ (x : Names). (x .result, (tt, (tt, (tt, (tt, (tt, (tt, (tt, (tt, (tt, (tt, (x .kinds, (x .begins, (x .ends, tt)))))))))))))))
 
   pub scope-exports-mz-resolve : Settled 𝓤 scope-exports·mz-resolve.ended (scope-exports·mz-resolve.clauses 𝓤 H A mem run)
   scope-exports-mz-resolve κs a g y z = read-off 𝓤 (λ (x : Asked). (x .result, (tt, (tt, (tt, (tt, (tt, (tt, (tt, (tt, (x .detail, tt)))))))))))
