@@ -13,14 +13,13 @@
 
 #[path = "../rust/src/library.rs"]
 mod library;
+mod turns;
 
 use library::{mz_count_by_next, mz_read_batch};
 use oracle::steps::{count_by_attributes, count_by_state};
 use std::hint::black_box;
 use std::process::ExitCode;
-use turns::{ROUNDS, fastest, shown};
-
-mod turns;
+use turns::{ROUNDS, fastest, none_missed, shown};
 
 const KEYS: usize = 256;
 /// Room for all answers of any tag here, and one more, so that one call reads to the end.
@@ -229,14 +228,7 @@ fn print_markdown(rows: &[Row]) {
 fn all_met(rows: &[Row]) -> bool {
     let missed: Vec<String> = rows.iter().filter_map(Row::missed).collect();
     let wanted = rows.iter().filter(|row| row.wanted.is_some()).count();
-    for line in &missed {
-        println!("{line}");
-    }
-    println!(
-        "{} of {wanted} wanted ratios are met",
-        wanted - missed.len()
-    );
-    missed.is_empty()
+    none_missed(wanted, &missed)
 }
 
 fn measure_all() -> Result<Vec<Row>, String> {

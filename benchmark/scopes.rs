@@ -10,48 +10,21 @@
 //! Usage: `scopes [--check] [--markdown]`. Status 1 where the two sides differ in an answer or, with
 //! `--check`, where a ratio is above the one that is wanted.
 
+#[path = "../rust/src/library.rs"]
+mod library;
 mod turns;
 
+use library::{mz_binding, mz_fresh, mz_pop, mz_push, mz_resolve, mz_resolve_all};
 use oracle::{NamespaceResolver, QName, ResolveResult, scopes};
 use std::cell::RefCell;
 use std::hint::black_box;
 use std::process::ExitCode;
-use turns::{ROUNDS, fastest, shown};
+use turns::{ROUNDS, fastest, none_missed, shown};
 
 const TEXT: usize = 65_536;
 const RECORDS: usize = 1_026;
 /// Names that are looked up by one call.
 const NAMES: usize = 256;
-
-// As in comparison/scopes/lent.rs: the five arrays of a resolver pass as their pointers alone, `head`
-// and each slice behind it as pointer and length.
-macro_rules! declare {
-    ($($name:ident($($more:ident: $kind:ty),*);)*) => {
-        unsafe extern "C" { $(
-            fn $name(
-                text: *mut u8,
-                starts: *mut usize,
-                prefix_lens: *mut usize,
-                value_lens: *mut usize,
-                levels: *mut u16,
-                head: *mut usize,
-                head_len: usize,
-                $($more: $kind),*
-            ) -> usize;
-        )* }
-    };
-}
-declare! {
-    mz_fresh();
-    mz_push(tag: *const u8, tag_len: usize, at: usize, detail: *mut usize, detail_len: usize);
-    mz_pop();
-    mz_resolve(name: *const u8, name_len: usize, use_default: bool,
-        detail: *mut usize, detail_len: usize);
-    mz_binding(place: usize, detail: *mut usize, detail_len: usize);
-    mz_resolve_all(tag: *const u8, tag_len: usize, from: *const usize, from_len: usize,
-        to: *const usize, to_len: usize, elements: usize, kinds: *mut usize, kinds_len: usize,
-        begins: *mut usize, begins_len: usize, ends: *mut usize, ends_len: usize);
-}
 
 /// The caller's own resolver that is lent to the library.
 #[repr(C, align(64))]
@@ -371,7 +344,7 @@ fn test_alone(pair: &Pair, twenty: &Pair) -> Row {
         bindings: pair.bindings,
         by_crate,
         ours,
-        most: Some(30.0),
+        most: (pair.bindings == 20).then_some(30.0),
     }
 }
 
@@ -422,14 +395,7 @@ fn print(rows: &[Row], markdown: bool) {
 fn all_met(rows: &[Row]) -> bool {
     let missed: Vec<String> = rows.iter().filter_map(Row::missed).collect();
     let wanted = rows.iter().filter(|row| row.most.is_some()).count();
-    for line in &missed {
-        println!("{line}");
-    }
-    println!(
-        "{} of {wanted} wanted ratios are met",
-        wanted - missed.len()
-    );
-    missed.is_empty()
+    none_missed(wanted, &missed)
 }
 
 fn main() -> ExitCode {

@@ -45,3 +45,15 @@ pub fn shown(nanoseconds: f64) -> String {
         _ => format!("{nanoseconds:.0}"),
     }
 }
+
+/// Says which of the wanted ratios are missed; whether none is.
+pub fn none_missed(wanted: usize, missed: &[String]) -> bool {
+    for line in missed {
+        println!("{line}");
+    }
+    println!(
+        "{} of {wanted} wanted ratios are met",
+        wanted - missed.len()
+    );
+    missed.is_empty()
+}
