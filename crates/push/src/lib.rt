@@ -21,6 +21,7 @@ ghost use Prim.Native.Nat.{_-_};
 ghost use lib.ListN.{length};
 ghost use Rattle.table.specs.Table.{TEXT, RECORDS, tables};
 ghost use Rattle.table.specs.Changes.{changed};
+ghost use Rattle.table.specs.declared.Answer.the-variants.{Done};
 ghost use Rattle.push.specs.Push.{attributeOf, takeAll, tagAnswers, pushOf};
 
 // The deepest level there is: `u16::MAX`.
@@ -81,6 +82,18 @@ fn attribute<'a>(
     )
 }
 
+// Success, with what a tag has left.
+fn done(used: usize, count: usize, level: u16) -> Outcome
+    ensures { λ r. ⌜ (r .answer ≡ Done) × (r .used ≡ used) × (r .count ≡ count) × (r .level ≡ level) ⌝ }
+{
+    Outcome {
+        answer: table::Answer::Done,
+        used: used,
+        count: count,
+        level: level,
+    }
+}
+
 // Each attribute of the tag in turn, up to the first refusal of the iterator, which is success, or of `add`, which is
 // handed on. Checks are off, so that the two tables of keys stay as they are.
 fn take_all<'s>(
@@ -99,31 +112,18 @@ fn take_all<'s>(
     requires { ⌜ length (now text) ≡ TEXT ⌝ }
     ensures { λ r. ⌜ changed (r .answer) (tables (now (text .exit)) (now (starts .exit)) (now (plens .exit)) (now (vlens .exit)) (now (levels .exit)) (r .used) (r .count) (r .level) limit) ≡ takeAll (now (tag .entry)) (tagAnswers (now (tag .entry)) from) (tables (now (text .entry)) (now (starts .entry)) (now (plens .entry)) (now (vlens .entry)) (now (levels .entry)) used count level limit) ⌝ }
 {
-    let mut key_starts = [0usize; 256];
-    let mut key_ends = [0usize; 256];
+    let mut begins = [0usize; 256];
+    let mut ends = [0usize; 256];
     let mut keys: usize = 0;
     let mut place = Place::Next(from);
     let mut bytes = used;
     let mut records = count;
     let mut depth = level;
     loop {
-        let step = attributes::step_lent(
-            tag,
-            &mut key_starts,
-            &mut key_ends,
-            false,
-            false,
-            keys,
-            place,
-        );
+        let step = attributes::step_lent(tag, &mut begins, &mut ends, false, false, keys, place);
         let answer = step.answer;
         let (Answer::DoubleQ(key, value) | Answer::SingleQ(key, value)) = answer else {
-            return Outcome {
-                answer: table::Answer::Done,
-                used: bytes,
-                count: records,
-                level: depth,
-            };
+            return done(bytes, records, depth);
         };
         let added = attribute(
             text,

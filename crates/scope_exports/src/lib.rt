@@ -126,61 +126,31 @@ fn wide(x: u16) -> usize
     x as usize
 }
 
+fn numbered(code: usize, a: usize, b: usize) -> Values
+    ensures { λ r. ⌜ (r .code ≡ code) × (r .a ∷ r .b ∷ [] ≡ a ∷ b ∷ []) ⌝ }
+{
+    Values {
+        code: code,
+        a: a,
+        b: b,
+    }
+}
+
 // The number and the values of an answer.
 fn told(answer: Answer) -> Values
     ensures { λ r. ⌜ (r .code ≡ codeOf (numbersOf answer)) × (r .a ∷ r .b ∷ [] ≡ detailOf 2 (numbersOf answer)) ⌝ }
 {
     match answer {
-        Answer::Done => Values {
-            code: 0,
-            a: 0,
-            b: 0,
-        },
-        Answer::InvalidXmlPrefixBind(a, e) => Values {
-            code: 12,
-            a: a,
-            b: e,
-        },
-        Answer::InvalidXmlnsPrefixBind(a, e) => Values {
-            code: 13,
-            a: a,
-            b: e,
-        },
-        Answer::InvalidPrefixForXml(a, e) => Values {
-            code: 14,
-            a: a,
-            b: e,
-        },
-        Answer::InvalidPrefixForXmlns(a, e) => Values {
-            code: 15,
-            a: a,
-            b: e,
-        },
-        Answer::TooManyBindings(limit) => Values {
-            code: 16,
-            a: limit,
-            b: 0,
-        },
-        Answer::TooDeeplyNested(depth) => Values {
-            code: 17,
-            a: depth,
-            b: 0,
-        },
-        Answer::BindingTableFull => Values {
-            code: 18,
-            a: 0,
-            b: 0,
-        },
-        Answer::TextFull => Values {
-            code: 19,
-            a: 0,
-            b: 0,
-        },
-        Answer::BadResolver => Values {
-            code: 20,
-            a: 0,
-            b: 0,
-        },
+        Answer::Done => numbered(0, 0, 0),
+        Answer::InvalidXmlPrefixBind(a, e) => numbered(12, a, e),
+        Answer::InvalidXmlnsPrefixBind(a, e) => numbered(13, a, e),
+        Answer::InvalidPrefixForXml(a, e) => numbered(14, a, e),
+        Answer::InvalidPrefixForXmlns(a, e) => numbered(15, a, e),
+        Answer::TooManyBindings(limit) => numbered(16, limit, 0),
+        Answer::TooDeeplyNested(depth) => numbered(17, depth, 0),
+        Answer::BindingTableFull => numbered(18, 0, 0),
+        Answer::TextFull => numbered(19, 0, 0),
+        Answer::BadResolver => numbered(20, 0, 0),
     }
 }
 
@@ -416,26 +386,10 @@ fn found_as(found: Resolved) -> Values
     ensures { λ r. ⌜ (r .code ≡ codeOf (resolvedNumbers found)) × (r .a ∷ r .b ∷ [] ≡ detailOf 2 (resolvedNumbers found)) ⌝ }
 {
     match found {
-        Resolved::Unbound => Values {
-            code: 0,
-            a: 0,
-            b: 0,
-        },
-        Resolved::Bound(a, e) => Values {
-            code: 1,
-            a: a,
-            b: e,
-        },
-        Resolved::Unknown(a, e) => Values {
-            code: 2,
-            a: a,
-            b: e,
-        },
-        Resolved::BadResolver => Values {
-            code: 20,
-            a: 0,
-            b: 0,
-        },
+        Resolved::Unbound => numbered(0, 0, 0),
+        Resolved::Bound(a, e) => numbered(1, a, e),
+        Resolved::Unknown(a, e) => numbered(2, a, e),
+        Resolved::BadResolver => numbered(20, 0, 0),
     }
 }
 

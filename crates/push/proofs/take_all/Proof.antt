@@ -19,15 +19,15 @@ use Rattle.push.proofs.take_all.Statement.{statement}
 use Rattle.push.proofs.take_all.Tie as tie
 
 abbrev Inv-loop : tie.InvT-loop
-Inv-loop text₀ starts₀ plens₀ vlens₀ levels₀ used count level limit tag from key-starts₀ key-ends₀ keys₀ place₀ bytes₀ records₀ depth₀ text starts plens vlens levels key-starts key-ends keys place bytes records depth = (length text ≡ TEXT)
-    × Ready tag false (lent key-starts key-ends keys) place
+Inv-loop text₀ starts₀ plens₀ vlens₀ levels₀ used count level limit tag from begins₀ ends₀ keys₀ place₀ bytes₀ records₀ depth₀ text starts plens vlens levels begins ends keys place bytes records depth = (length text ≡ TEXT)
+    × Ready tag false (lent begins ends keys) place
     × (takeAll tag (tagAnswers tag from) (tables text₀ starts₀ plens₀ vlens₀ levels₀ used count level limit)
-    ≡ takeAll tag (answersFrom tag false false (lent key-starts key-ends keys) (recoverOf tag place)) (tables text starts plens vlens levels bytes records depth limit))
-    × (length key-starts ≡ 256)
-    × (length key-ends ≡ 256)
+    ≡ takeAll tag (answersFrom tag false false (lent begins ends keys) (recoverOf tag place)) (tables text starts plens vlens levels bytes records depth limit))
+    × (length begins ≡ 256)
+    × (length ends ≡ 256)
 
 abbrev μ-loop : tie.MeasureT-loop
-μ-loop text₀ starts₀ plens₀ vlens₀ levels₀ used count level limit tag from key-starts₀ key-ends₀ keys₀ place₀ bytes₀ records₀ depth₀ text starts plens vlens levels key-starts key-ends keys place bytes records depth = todo (length tag) (recoverOf tag place)
+μ-loop text₀ starts₀ plens₀ vlens₀ levels₀ used count level limit tag from begins₀ ends₀ keys₀ place₀ bytes₀ records₀ depth₀ text starts plens vlens levels begins ends keys place bytes records depth = todo (length tag) (recoverOf tag place)
 
 loop-holds : tie.Need-loop-holds Inv-loop μ-loop
 unfolding tagAnswers noKeys
@@ -51,11 +51,16 @@ enum-known-answer c = search needs
 enum-known-answer-2 : tie.Need-enum-known-answer-2 Inv-loop μ-loop
 enum-known-answer-2 c = search needs
 
+done-requires : tie.Need-done-requires Inv-loop μ-loop
+done-requires c κs = search needs
+
 returns : tie.Need-returns Inv-loop μ-loop
 returns c =
-    let l = c .before .before .before .before .before .before .loop in
-    let s = c .before .before .before .before .before .before .before .before .args .tag .now in
-    turn-stops s (lent (l .key-starts) (l .key-ends) (l .keys)) (l .place) _ (c .before .before .before .step-lent .ensures) (tables (l .text) (l .starts) (l .plens) (l .vlens) (l .levels) (l .bytes) (l .records) (l .depth) (c .before .before .before .before .before .before .before .before .args .limit)) (c .match .keys3) ∙ sym (l .inv .2)
+    let l = c .before .before .before .before .before .before .before .loop in
+    let a = c .before .before .before .before .before .before .before .before .before .args in
+    let d = c .done .ensures in
+    rw (d .0, d .1, d .2, d .3)
+    (turn-stops (a .tag .now) (lent (l .begins) (l .ends) (l .keys)) (l .place) _ (c .before .before .before .before .step-lent .ensures) (tables (l .text) (l .starts) (l .plens) (l .vlens) (l .levels) (l .bytes) (l .records) (l .depth) (a .limit)) (c .before .match .keys3) ∙ sym (l .inv .2))
 
 key-part-requires : tie.Need-key-part-requires Inv-loop μ-loop
 key-part-requires c κs = search needs
@@ -78,7 +83,7 @@ returns-2 c =
     ⊎-elim (λ w. inl (rw (w .4, w .5) (w .1 .given .1))) (λ w. inr (rw (w .4, w .5) (w .1 .given .1))) (m .came) in
     let same : m .answer ≡ c .before .before .before .before .before .before .before .before .before .before .before .before .step-lent .result .answer =
     ⊎-elim (λ w. w .3 ∙ sym (w .1 .given .1)) (λ w. w .3 ∙ sym (w .1 .given .1)) (m .came) in
-    turn-refused s (lent (l .key-starts) (l .key-ends) (l .keys)) (l .place) _ (c .before .before .before .before .before .before .before .before .before .before .before .before .step-lent .ensures) (tables (l .text) (l .starts) (l .plens) (l .vlens) (l .levels) (l .bytes) (l .records) (l .depth) (c .before .before .before .before .before .before .before .before .before .before .before .before .before .before .before .before .before .args .limit)) (m .answer) (m .key) (m .value) same q _ (c .before .attribute .ensures ∙ rw (c .before .before .before .key-part .ensures, c .before .before .value-part .ensures)) (refused (c .before .attribute .result .answer) (c .match2 .keys2)) ∙ sym (l .inv .2)
+    turn-refused s (lent (l .begins) (l .ends) (l .keys)) (l .place) _ (c .before .before .before .before .before .before .before .before .before .before .before .before .step-lent .ensures) (tables (l .text) (l .starts) (l .plens) (l .vlens) (l .levels) (l .bytes) (l .records) (l .depth) (c .before .before .before .before .before .before .before .before .before .before .before .before .before .before .before .before .before .args .limit)) (m .answer) (m .key) (m .value) same q _ (c .before .attribute .ensures ∙ rw (c .before .before .before .key-part .ensures, c .before .before .value-part .ensures)) (refused (c .before .attribute .result .answer) (c .match2 .keys2)) ∙ sym (l .inv .2)
 
 loop-less : tie.Need-loop-less Inv-loop μ-loop
 loop-less c =
@@ -87,7 +92,7 @@ loop-less c =
     let m = c .before .before .before .before .before .before .before .before .before .before .match in
     let q : Quoted (c .before .before .before .before .before .before .before .before .before .before .before .before .before .step-lent .result .answer) (m .key) (m .value) =
     ⊎-elim (λ w. inl (rw (w .4, w .5) (w .1 .given .1))) (λ w. inr (rw (w .4, w .5) (w .1 .given .1))) (m .came) in
-    todo-less s (lent (l .key-starts) (l .key-ends) (l .keys)) (l .place) _ (c .before .before .before .before .before .before .before .before .before .before .before .before .before .step-lent .ensures) (m .key) (m .value) q
+    todo-less s (lent (l .begins) (l .ends) (l .keys)) (l .place) _ (c .before .before .before .before .before .before .before .before .before .before .before .before .before .step-lent .ensures) (m .key) (m .value) q
 
 loop-again : tie.Need-loop-again Inv-loop μ-loop
 loop-again c =
@@ -98,13 +103,13 @@ loop-again c =
     ⊎-elim (λ w. inl (rw (w .4, w .5) (w .1 .given .1))) (λ w. inr (rw (w .4, w .5) (w .1 .given .1))) (m .came) in
     let same : m .answer ≡ c .before .before .before .before .before .before .before .before .before .before .before .before .before .step-lent .result .answer =
     ⊎-elim (λ w. w .3 ∙ sym (w .1 .given .1)) (λ w. w .3 ∙ sym (w .1 .given .1)) (m .came) in
-    let k = step-keeps s false (lent (l .key-starts) (l .key-ends) (l .keys)) (l .inv .1 .inside) (l .inv .1 .room) false (l .place) in (
+    let k = step-keeps s false (lent (l .begins) (l .ends) (l .keys)) (l .inv .1 .inside) (l .inv .1 .room) false (l .place) in (
       ap (λ (z : Changed). length (z .resolver .text)) (c .before .before .attribute .ensures) ∙ attribute-length (tables (l .text) (l .starts) (l .plens) (l .vlens) (l .levels) (l .bytes) (l .records) (l .depth) (c .before .before .before .before .before .before .before .before .before .before .before .before .before .before .before .before .before .before .args .limit)) _ _ (m .key) (m .value) (l .inv .0),
-      subst (λ (z : Reading). Ready s false (z .keys) (z .place)) (sym (c .before .before .before .before .before .before .before .before .before .before .before .before .before .step-lent .ensures)) (step-ready s false false (lent (l .key-starts) (l .key-ends) (l .keys)) (l .place) (l .inv .1)),
-      l .inv .2 ∙ turn-goes-on s (lent (l .key-starts) (l .key-ends) (l .keys)) (l .place) _ (c .before .before .before .before .before .before .before .before .before .before .before .before .before .step-lent .ensures) (tables (l .text) (l .starts) (l .plens) (l .vlens) (l .levels) (l .bytes) (l .records) (l .depth) (c .before .before .before .before .before .before .before .before .before .before .before .before .before .before .before .before .before .before .args .limit)) (m .answer) (m .key) (m .value) same q _ (c .before .before .attribute .ensures ∙ rw (c .before .before .before .before .key-part .ensures, c .before .before .before .value-part .ensures)) (c .enum-told .given .1),
+      subst (λ (z : Reading). Ready s false (z .keys) (z .place)) (sym (c .before .before .before .before .before .before .before .before .before .before .before .before .before .step-lent .ensures)) (step-ready s false false (lent (l .begins) (l .ends) (l .keys)) (l .place) (l .inv .1)),
+      l .inv .2 ∙ turn-goes-on s (lent (l .begins) (l .ends) (l .keys)) (l .place) _ (c .before .before .before .before .before .before .before .before .before .before .before .before .before .step-lent .ensures) (tables (l .text) (l .starts) (l .plens) (l .vlens) (l .levels) (l .bytes) (l .records) (l .depth) (c .before .before .before .before .before .before .before .before .before .before .before .before .before .before .before .before .before .before .args .limit)) (m .answer) (m .key) (m .value) same q _ (c .before .before .attribute .ensures ∙ rw (c .before .before .before .before .key-part .ensures, c .before .before .before .value-part .ensures)) (c .enum-told .given .1),
       ap (λ (z : Reading). length (z .keys .starts)) (c .before .before .before .before .before .before .before .before .before .before .before .before .before .step-lent .ensures) ∙ k .starts ∙ l .inv .3,
       ap (λ (z : Reading). length (z .keys .ends)) (c .before .before .before .before .before .before .before .before .before .before .before .before .before .step-lent .ensures) ∙ k .ends ∙ l .inv .4,
     )
 
 pub take-all-spec : {M : Type 1} → statement M
-take-all-spec = tie.close (tie.spec Inv-loop μ-loop loop-holds slice-aggregate-step-lent slice-aggregate-step-lent-2 step-lent-requires enum-known-answer enum-known-answer-2 returns key-part-requires value-part-requires attribute-requires enum-told returns-2 loop-less loop-again)
+take-all-spec = tie.close (tie.spec Inv-loop μ-loop loop-holds slice-aggregate-step-lent slice-aggregate-step-lent-2 step-lent-requires enum-known-answer enum-known-answer-2 done-requires returns key-part-requires value-part-requires attribute-requires enum-told returns-2 loop-less loop-again)

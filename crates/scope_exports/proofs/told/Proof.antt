@@ -2,6 +2,7 @@
 use Rattle.table.specs.Changes.{numbersOf}
 use Rattle.scope_exports.specs.Scope.{codeOf, detailOf}
 use Rattle.scope_exports.proofs.Scopes.{told-as}
+use mathlib.Core.Path.{_∙_}
 use borrow.Author.Needs.{needs}
 use Rattle.scope_exports.proofs.told.Statement.{statement}
 use Rattle.scope_exports.proofs.told.Tie as tie
@@ -9,87 +10,147 @@ use Rattle.scope_exports.proofs.told.Tie as tie
 enum-told : tie.Need-enum-told
 enum-told c = search needs
 
+numbered-requires : tie.Need-numbered-requires
+numbered-requires c κs = search needs
+
 enum-known-answer : tie.Need-enum-known-answer
 enum-known-answer c = search needs
+
+numbered-requires-2 : tie.Need-numbered-requires-2
+numbered-requires-2 c κs = search needs
 
 enum-known-answer-2 : tie.Need-enum-known-answer-2
 enum-known-answer-2 c = search needs
 
+numbered-requires-3 : tie.Need-numbered-requires-3
+numbered-requires-3 c κs = search needs
+
 enum-known-answer-3 : tie.Need-enum-known-answer-3
 enum-known-answer-3 c = search needs
+
+numbered-requires-4 : tie.Need-numbered-requires-4
+numbered-requires-4 c κs = search needs
 
 enum-known-answer-4 : tie.Need-enum-known-answer-4
 enum-known-answer-4 c = search needs
 
+numbered-requires-5 : tie.Need-numbered-requires-5
+numbered-requires-5 c κs = search needs
+
 enum-known-answer-5 : tie.Need-enum-known-answer-5
 enum-known-answer-5 c = search needs
+
+numbered-requires-6 : tie.Need-numbered-requires-6
+numbered-requires-6 c κs = search needs
 
 enum-known-answer-6 : tie.Need-enum-known-answer-6
 enum-known-answer-6 c = search needs
 
+numbered-requires-7 : tie.Need-numbered-requires-7
+numbered-requires-7 c κs = search needs
+
 enum-told-2 : tie.Need-enum-told-2
 enum-told-2 c = search needs
+
+numbered-requires-8 : tie.Need-numbered-requires-8
+numbered-requires-8 c κs = search needs
 
 enum-told-3 : tie.Need-enum-told-3
 enum-told-3 c = search needs
 
+numbered-requires-9 : tie.Need-numbered-requires-9
+numbered-requires-9 c κs = search needs
+
 enum-told-4 : tie.Need-enum-told-4
 enum-told-4 c = search needs
 
+numbered-requires-10 : tie.Need-numbered-requires-10
+numbered-requires-10 c κs = search needs
+
 returns : tie.Need-returns
 unfolding codeOf detailOf numbersOf
-returns c = told-as _ _ (c .enum-told .given .1)
+returns c =
+    let e = told-as _ _ (c .before .enum-told .given .1) in
+    (c .numbered .ensures .0 ∙ e .0, c .numbered .ensures .1 ∙ e .1)
 
 returns-2 : tie.Need-returns-2
 unfolding codeOf detailOf numbersOf
-returns-2 c = told-as _ _ (c .before .answer .given .1)
+returns-2 c =
+    let e = told-as _ _ (c .before .before .answer .given .1) in
+    (c .numbered2 .ensures .0 ∙ e .0, c .numbered2 .ensures .1 ∙ e .1)
 
 returns-3 : tie.Need-returns-3
 unfolding codeOf detailOf numbersOf
-returns-3 c = told-as _ _ (c .before .answer2 .given .1)
+returns-3 c =
+    let e = told-as _ _ (c .before .before .answer2 .given .1) in
+    (c .numbered3 .ensures .0 ∙ e .0, c .numbered3 .ensures .1 ∙ e .1)
 
 returns-4 : tie.Need-returns-4
 unfolding codeOf detailOf numbersOf
-returns-4 c = told-as _ _ (c .before .answer3 .given .1)
+returns-4 c =
+    let e = told-as _ _ (c .before .before .answer3 .given .1) in
+    (c .numbered4 .ensures .0 ∙ e .0, c .numbered4 .ensures .1 ∙ e .1)
 
 returns-5 : tie.Need-returns-5
 unfolding codeOf detailOf numbersOf
-returns-5 c = told-as _ _ (c .before .answer4 .given .1)
+returns-5 c =
+    let e = told-as _ _ (c .before .before .answer4 .given .1) in
+    (c .numbered5 .ensures .0 ∙ e .0, c .numbered5 .ensures .1 ∙ e .1)
 
 returns-6 : tie.Need-returns-6
 unfolding codeOf detailOf numbersOf
-returns-6 c = told-as _ _ (c .before .answer5 .given .1)
+returns-6 c =
+    let e = told-as _ _ (c .before .before .answer5 .given .1) in
+    (c .numbered6 .ensures .0 ∙ e .0, c .numbered6 .ensures .1 ∙ e .1)
 
 returns-7 : tie.Need-returns-7
 unfolding codeOf detailOf numbersOf
-returns-7 c = told-as _ _ (c .before .answer6 .given .1)
+returns-7 c =
+    let e = told-as _ _ (c .before .before .answer6 .given .1) in
+    (c .numbered7 .ensures .0 ∙ e .0, c .numbered7 .ensures .1 ∙ e .1)
 
 returns-8 : tie.Need-returns-8
 unfolding codeOf detailOf numbersOf
-returns-8 c = told-as _ _ (c .enum-told2 .given .1)
+returns-8 c =
+    let e = told-as _ _ (c .before .enum-told2 .given .1) in
+    (c .numbered8 .ensures .0 ∙ e .0, c .numbered8 .ensures .1 ∙ e .1)
 
 returns-9 : tie.Need-returns-9
 unfolding codeOf detailOf numbersOf
-returns-9 c = told-as _ _ (c .enum-told3 .given .1)
+returns-9 c =
+    let e = told-as _ _ (c .before .enum-told3 .given .1) in
+    (c .numbered9 .ensures .0 ∙ e .0, c .numbered9 .ensures .1 ∙ e .1)
 
 returns-10 : tie.Need-returns-10
 unfolding codeOf detailOf numbersOf
-returns-10 c = told-as _ _ (c .enum-told4 .given .1)
+returns-10 c =
+    let e = told-as _ _ (c .before .enum-told4 .given .1) in
+    (c .numbered10 .ensures .0 ∙ e .0, c .numbered10 .ensures .1 ∙ e .1)
 
 pub told-spec : {M : Type 1} → statement M
 told-spec =
     tie.close
     (tie.spec
     enum-told
+    numbered-requires
     enum-known-answer
+    numbered-requires-2
     enum-known-answer-2
+    numbered-requires-3
     enum-known-answer-3
+    numbered-requires-4
     enum-known-answer-4
+    numbered-requires-5
     enum-known-answer-5
+    numbered-requires-6
     enum-known-answer-6
+    numbered-requires-7
     enum-told-2
+    numbered-requires-8
     enum-told-3
+    numbered-requires-9
     enum-told-4
+    numbered-requires-10
     returns
     returns-2
     returns-3
