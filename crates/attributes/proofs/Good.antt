@@ -7,6 +7,7 @@ use mathlib.Core.List.{List}
 use native.Mathlib.Omega.{arith}
 use lib.ListN.{length, replicate, length-replicate}
 use Rattle.scan.specs.First.{pick}
+use Rattle.scan.proofs.Bytes.{and-on}
 use Rattle.keys.specs.declared.Checked.{Checked}
 use Rattle.keys.specs.Keys.{capacity, KeysIn, Room, tableGood}
 use Rattle.keys.proofs.Laws.{in-table, keys-none, keys-after, room-stays, written-length}
@@ -18,7 +19,6 @@ use Rattle.attributes.specs.declared.Start.the-variants.{From, Ended}
 use Rattle.attributes.specs.declared.IterState.{IterState}
 use Rattle.attributes.specs.Read.{recoverOf}
 use Rattle.attributes.specs.Next.{Keys, Reading, Ready, checkOf, keptBy, bareTo, valuedTo, readAt, stepFrom, stepOf, placeGood, keysOf, stateGood, noKeys, badReading, leaves, nextOf, opened, withChecks}
-use Rattle.attributes.proofs.Paths.{and-true}
 use Rattle.attributes.proofs.Whole.{starts-in, next-ready}
 use Rattle.attributes.proofs.Ways.{step-ways}
 use Rattle.attributes.proofs.Progress.{after-good, step-forward}
@@ -81,7 +81,7 @@ pub record Sized (st : IterState) : Type 0 where
 
 -- a state whose tables are ready is good
 ready-good : (s : List ℕ) (checks : Bool) (keys : Keys) (place : Place) → Ready s checks keys place → (tableGood (length s) (keys .starts) (keys .ends) (keys .count) && placeGood s place) ≡ true
-ready-good s checks keys place r = sym (and-true _ _ (in-table (length s) (keys .starts) (keys .ends) (keys .count) (r .inside))) ∙ r .stands
+ready-good s checks keys place r = sym (and-on (in-table (length s) (keys .starts) (keys .ends) (keys .count) (r .inside)) refl) ∙ r .stands
 
 none-ready : (s : List ℕ) (checks : Bool) → Ready s checks noKeys Done
 unfolding noKeys placeGood

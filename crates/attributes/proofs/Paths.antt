@@ -1,7 +1,7 @@
 -- What each definition of specs/Read and specs/Next is, for each way that the code can go: a law for each `return`.
 use Prim.Native.Nat.{ℕ, _+_, _≤_, _<_}
 use mathlib.Core.Path.{_≡_, refl, sym, ap, _∙_}
-use mathlib.Core.Bool.{Bool, true, false, _&&_}
+use mathlib.Core.Bool.{Bool, true, false}
 use mathlib.Core.List.{List}
 use lib.ListN.{length, getD}
 use lib.Dec.{eqb, ltb}
@@ -9,7 +9,7 @@ use borrow.Author.Tests.{lt-ltb, le-ltb, le-leb, lt-leb, eq-eqb, ne-eqb, ltb-tru
 use Rattle.scan.specs.First.{firstFrom}
 use Rattle.scan.specs.Bytes.{isSpace, notSpace, endsKey, isByte}
 use Rattle.scan.proofs.Laws.{hit}
-use Rattle.scan.proofs.Bytes.{both}
+use Rattle.scan.proofs.Bytes.{both, eq-content}
 use Rattle.attributes.specs.declared.Span.{Span}
 use Rattle.attributes.specs.declared.Place.the-variants.{Done, Next, SkipValue, SkipEqValue}
 use Rattle.attributes.specs.declared.Start.the-variants.{From, Ended}
@@ -17,9 +17,6 @@ use Rattle.attributes.specs.declared.KeyRead.the-variants.{NoKey, Bare, 
 use Rattle.attributes.specs.declared.Answer.the-variants.{Unquoted, ExpectedValue, UnquotedValue, ExpectedQuote}
 use Rattle.attributes.specs.Read.{span, found, isAt, isQuote, skipTo, skipOf, skipEqIn, skipEqFrom, skipEqValueOf, recoverOf, keyEq, keyTo, keyFrom, keyAt, quoted, closedOf, quotedTo, quotedOf, unquotedTo, otherOf, valueIn, valueFrom, valueAt}
 use Rattle.attributes.specs.Next.{placeAt, placeGood}
-
-pub and-true : (a b : Bool) → a ≡ true → b ≡ (a && b)
-and-true a b e = rw e
 
 -- quotes
 
@@ -66,10 +63,6 @@ module _ (s : List ℕ) (o x : ℕ) (here : x ≡ firstFrom notSpace s o) where
       skip-eq-open h = sym (skip-eq-is ∙ rw (q, sym b, le-ltb e (length s) h))
 
 -- at `=` there is no quote to go by
-eq-content : notSpace 61 ≡ true
-unfolding notSpace isSpace
-eq-content = refl
-
 eq-no-quote : isQuote 61 ≡ false
 unfolding isQuote
 eq-no-quote = refl

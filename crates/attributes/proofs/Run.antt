@@ -1,6 +1,6 @@
 -- Whole runs: the three forms of a run agree, a run has no more answers than there are bytes left, so that more budget
 -- changes nothing, and once ended it stays ended.
-use Prim.Native.Nat.{ℕ, zero, suc, _+_, _-_, _≤_}
+use Prim.Native.Nat.{ℕ, zero, suc, _+_, _-_, _≤_, _<_}
 use mathlib.Core.Path.{_≡_, refl, sym, ap, subst, _∙_}
 use mathlib.Core.Bool.{Bool, true, false, false≢true}
 use mathlib.Core.List.{List, [], _∷_}
@@ -76,12 +76,22 @@ module _ (n : ℕ) (s : List ℕ) (html checks : Bool) (keys : Keys) (place : Pl
   unfolding runLent consUnless
   lent-stops h = rw (sym e, h)
 
+-- an answer more, or none
+pub cons-most : (n : ℕ) (t : Bool) (a : Answer) (more : List Answer) → length more ≤ n → length (consUnless t a more) ≤ suc n
+unfolding consUnless
+cons-most n true a more h = omega arith
+cons-most n false a more h = omega arith
+
 -- What is left
 
 -- the bytes that are left
 abbrev pub left : ℕ → Start → ℕ
 left l (From o) = l - o
 left l Ended = 0
+
+pub left-all : (l : ℕ) (x : Start) → left l x ≤ l
+left-all l (From o) = omega arith
+left-all l Ended = omega arith
 
 left-falls : (l o n : ℕ) (x : Start) → StartPast l o x → l - o ≤ suc n → left l x ≤ n
 unfolding StartPast
@@ -100,6 +110,17 @@ at-end s html checks keys o h =
     let f = past notSpace s o h in
     rw (sym (key-none s o (firstFrom notSpace s o) refl (omega arith)))
 
+-- no more answers there, and none after the end
+pub run-end : (n : ℕ) (s : List ℕ) (html checks : Bool) (keys : Keys) (o : ℕ) → length s ≤ o → runFrom n s html checks keys (From o) ≡ []
+unfolding runFrom isEnd consUnless
+run-end zero s html checks keys o h = refl
+run-end (suc n) s html checks keys o h = rw (at-end s html checks keys o h)
+
+pub run-ended : (n : ℕ) (s : List ℕ) (html checks : Bool) (keys : Keys) → runFrom n s html checks keys Ended ≡ []
+unfolding runFrom
+run-ended zero s html checks keys = refl
+run-ended (suc n) s html checks keys = refl
+
 one-more : (n : ℕ) (s : List ℕ) (html checks : Bool) (keys : Keys) (x : Start) → StartIn (length s) x → left (length s) x ≤ n → runFrom (suc n) s html checks keys x ≡ runFrom n s html checks keys x
 unfolding runFrom isEnd consUnless StartIn
 one-more zero s html checks keys (From o) i h = rw (at-end s html checks keys o (omega arith))
@@ -110,21 +131,39 @@ one-more (suc n) s html checks keys (From o) i h =
 one-more zero s html checks keys Ended i h = refl
 one-more (suc n) s html checks keys Ended i h = refl
 
+-- the steps that are left, at most: one for each byte, and one that finds no more
+abbrev pub todo : ℕ → Start → ℕ
+todo l (From o) = suc (l - o)
+todo l Ended = 0
+
+todo-past : (l o : ℕ) (x : Start) → StartPast l o x → todo l x < suc (l - o)
+unfolding StartPast
+todo-past l o (From w) h = omega (arith, h .0, h .1)
+todo-past l o Ended h = omega arith
+
+todo-by : (s : List ℕ) (html checks : Bool) (keys : Keys) (place : Place) (x : Start) → recoverOf s place ≡ x → isEnd (stepFrom s html checks keys place x .answer) ≡ false → todo (length s) (recoverOf s (stepFrom s html checks keys place x .place)) < todo (length s) x
+unfolding stepFrom isEnd
+todo-by s html checks keys place Ended e z = absurd (false≢true (sym z))
+todo-by s html checks keys place (From o) e z =
+    let r = readAt s html checks keys o in
+    todo-past (length s) o (recoverOf s (r .place)) (resume-past s o (r .place) (step-forward s html checks keys o (starts-in s place o e)))
+
+-- An answer that is not the end leaves less.
+pub todo-falls : (s : List ℕ) (html checks : Bool) (keys : Keys) (place : Place) → isEnd (stepOf s html checks keys place .answer) ≡ false → todo (length s) (recoverOf s (stepOf s html checks keys place .place)) < todo (length s) (recoverOf s place)
+unfolding stepOf
+todo-falls s html checks keys place = todo-by s html checks keys place (recoverOf s place) refl
+
 -- A budget of the bytes that are left is enough.
 pub from-more : (j n : ℕ) (s : List ℕ) (html checks : Bool) (keys : Keys) (x : Start) → StartIn (length s) x → left (length s) x ≤ n → runFrom (n + j) s html checks keys x ≡ runFrom n s html checks keys x
 from-more zero n s html checks keys x i h = rw add-zero
 from-more (suc j) n s html checks keys x i h = rw add-suc (one-more (n + j) s html checks keys x i (omega arith) ∙ from-more j n s html checks keys x i h)
-
-left-all : (s : List ℕ) (x : Start) → left (length s) x ≤ length s
-left-all s (From o) = omega arith
-left-all s Ended = omega arith
 
 -- The run from a good state is the run from where it resumes.
 pub answers-resume : (s : List ℕ) (st : IterState) → Sized st → stateGood s st ≡ true → answersOf s st ≡ answersFrom s (st .html) (st .«check_duplicates») (keysOf st) (recoverOf s (st .place))
 unfolding answersOf answersFrom
 answers-resume s st sized good =
     run-lent (suc (length s)) s st sized good ∙ lent-resumes (suc (length s)) s (st .html) (st .«check_duplicates») (keysOf st) (st .place)
-    ∙ one-more (length s) s (st .html) (st .«check_duplicates») (keysOf st) (recoverOf s (st .place)) (recover-in s (st .place)) (left-all s (recoverOf s (st .place)))
+    ∙ one-more (length s) s (st .html) (st .«check_duplicates») (keysOf st) (recoverOf s (st .place)) (recover-in s (st .place)) (left-all (length s) (recoverOf s (st .place)))
 
 -- All answers of an iterator that is opened at o.
 pub opened-answers : (s : List ℕ) (o : ℕ) (html checks : Bool) → answersOf s (opened o html checks) ≡ answersFrom s html checks noKeys (recoverOf s (Next o))
@@ -153,7 +192,7 @@ unfolding answersOf
 run-whole j s st sized = by (stateGood s st) refl where
   by : (t : Bool) → stateGood s st ≡ t → runOf (suc (length s) + j) s st ≡ runOf (suc (length s)) s st
   by true good =
-      let l = left-all s (recoverOf s (st .place)) in
+      let l = left-all (length s) (recoverOf s (st .place)) in
       runs-more j (suc (length s)) s st sized good (omega arith)
   by false bad =
       let l = bad-left s st (nextOf s st) (next-bad s st bad) in

@@ -29,7 +29,7 @@ use Rattle.attributes.specs.declared.Found.{Found}
 use Rattle.attributes.specs.declared.Outcome.{Outcome}
 use Rattle.attributes.specs.declared.IterState.{IterState}
 use Rattle.attributes.specs.Read.{found, isAt, skipTo, skipOf, recoverOf, keyEq, keyTo, keyFrom, keyAt, valueAt}
-use Rattle.attributes.specs.Next.{Keys, Reading, Ready, reading, lent, made, checkOf, keptBy, placeAt, bareBy, bareTo, bareOf, valuedBy, valuedTo, valuedOf, readKey, readAt, stepFrom, stepOf, placeGood, keysOf, stateGood, noKeys, badReading, leaves, nextOf, roomFor, lentGood, cleared, nextIn}
+use Rattle.attributes.specs.Next.{Keys, Reading, Ready, reading, lent, made, checkOf, keptBy, placeAt, bareBy, bareTo, bareOf, valuedBy, valuedTo, valuedOf, readKey, readAt, stepFrom, stepOf, placeGood, keysOf, lentState, stateGood, noKeys, badReading, leaves, nextOf, roomFor, lentGood, cleared, nextIn}
 
 abbrev outcome : Answer → Place → ℕ → Outcome
 outcome a p n = record { answer = a; place = p; count = n }
@@ -173,6 +173,11 @@ module _ (s : List ℕ) (st : IterState) where
     pub next-ready : length (st .starts) ≡ capacity → length (st .ends) ≡ capacity → Ready s (st .«check_duplicates») (keysOf st) (st .place)
     unfolding stateGood keysOf
     next-ready x y = in-ready s (st .«check_duplicates») (keysOf st) (st .place) (sym (sized-good s (st .«check_duplicates») (keysOf st) (st .place) x y) ∙ good)
+
+-- A step on lent tables is a step of the iterator that they make.
+pub lent-step : (s : List ℕ) (place : Place) (html checks : Bool) (starts ends : List ℕ) (count : ℕ) → stateGood s (lentState place html checks starts ends count) ≡ true → (r : Outcome) (starts' ends' : List ℕ) → made r starts' ends' ≡ stepOf s html checks (lent starts ends count) place → record { answer = r .answer; state = lentState (r .place) html checks starts' ends' (r .count) } ≡ nextOf s (lentState place html checks starts ends count)
+unfolding leaves keysOf
+lent-step s place html checks starts ends count good r starts' ends' e = next-steps s (lentState place html checks starts ends count) good (made r starts' ends') e
 
 -- where a key lies that was read from o on: x is its `=`, or what follows it
 pub record KeyBy (l o : ℕ) (key : Span) (x : ℕ) : Type 0 where

@@ -126,6 +126,11 @@ placeGood s (Next o) = true
 placeGood s (SkipValue o) = ltb o (length s)
 placeGood s (SkipEqValue o) = isAt s 61 o
 
+-- the iterator of these parts, its tables lent or its own
+abbrev pub lentState : Place → Bool → Bool → (starts ends : List ℕ) → ℕ → IterState
+lentState place html checks starts ends count =
+    record { place = place; html = html; «check_duplicates» = checks; starts = starts; ends = ends; count = count }
+
 unfoldable pub keysOf : IterState → Keys
 keysOf st = lent (st .starts) (st .ends) (st .count)
 

@@ -8,9 +8,9 @@ use Rattle.keys.specs.Keys.{capacity}
 use Rattle.attributes.specs.declared.Place.the-variants.{Next}
 use Rattle.attributes.specs.declared.Answer.{Answer}
 use Rattle.attributes.specs.declared.IterState.{IterState}
-use Rattle.attributes.specs.Next.{opened}
+use Rattle.attributes.specs.Next.{opened, lentState}
 use Rattle.attributes.specs.Run.{answersOf}
-use Rattle.batch.specs.Batch.{lentState, roomOf}
+use Rattle.batch.specs.Batch.{roomOf}
 
 -- the tables of an iterator, and an output with room for 256 answers
 pub record Lent (s e numbers : List ℕ) : Type 0 where

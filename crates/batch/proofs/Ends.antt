@@ -9,6 +9,8 @@ use lib.ListN.{length, replicate}
 use lib.Dec.{eqb}
 use borrow.Author.Tests.{eq-eqb, ne-eqb}
 use Rattle.scan.specs.First.{pick}
+use Rattle.scan.specs.Lists.{over}
+use Rattle.scan.proofs.Lists.{over-none}
 use Rattle.keys.specs.Keys.{capacity}
 use Rattle.attributes.specs.declared.Place.{Place}
 use Rattle.attributes.specs.declared.Place.the-variants.{Done}
@@ -17,14 +19,13 @@ use Rattle.attributes.specs.declared.Answer.the-variants.{End, BadState}
 use Rattle.attributes.specs.declared.IterState.{IterState}
 use Rattle.attributes.specs.declared.Step.{Step}
 use Rattle.attributes.specs.Read.{recoverOf}
-use Rattle.attributes.specs.Next.{stateGood, noKeys, badReading, leaves, keysOf, stepOf, stepFrom, nextOf}
+use Rattle.attributes.specs.Next.{stateGood, noKeys, badReading, leaves, keysOf, stepOf, stepFrom, nextOf, lentState}
 use Rattle.attributes.specs.Run.{isEnd, consUnless, runOf}
 use Rattle.attributes.proofs.Whole.{next-bad, next-steps}
 use Rattle.attributes.proofs.Good.{Sized, next-stays-good, next-sized}
 use Rattle.batch.specs.declared.Batch.{Batch}
 use Rattle.batch.specs.declared.Batch.the-variants.{Read, WrongTables}
-use Rattle.batch.specs.Batch.{fiveOf, fivesOf, over, leftOf, lentState, tablesFit, roomOf, readOf, afterOf, writtenOf, leftBatch, batchOf}
-use Rattle.batch.proofs.Over.{over-none}
+use Rattle.batch.specs.Batch.{fiveOf, fivesOf, leftOf, tablesFit, roomOf, readOf, afterOf, writtenOf, leftBatch, batchOf}
 
 -- what the contract of `read_batch` says of an answer and of the lent memory after it
 abbrev pub Said : List ℕ → IterState → List ℕ → Batch → (starts ends written : List ℕ) → Type 0
@@ -90,7 +91,7 @@ module _ (s : List ℕ) (st : IterState) (out : List ℕ) where
 
 module _ (s : List ℕ) (html checks : Bool) (starts ends : List ℕ) (count : ℕ) (good : stateGood s (lentState Done html checks starts ends count) ≡ true) where
   done-next : record { answer = End; state = lentState Done html checks starts ends count } ≡ nextOf s (lentState Done html checks starts ends count)
-  unfolding lentState leaves keysOf stepOf stepFrom recoverOf
+  unfolding leaves keysOf stepOf stepFrom recoverOf
   done-next = next-steps s (lentState Done html checks starts ends count) good _ refl
 
   done-run : (n : ℕ) → runOf n s (lentState Done html checks starts ends count) ≡ []
@@ -113,7 +114,7 @@ module _ (s : List ℕ) (st : IterState) (out : List ℕ) (z : Sized st) (bad : 
   after = lentState Done (st .html) (st .«check_duplicates») zeros zeros 0
 
   is-next : record { answer = BadState; state = after } ≡ nextOf s st
-  unfolding lentState leaves badReading noKeys
+  unfolding leaves badReading noKeys
   is-next = next-bad s st bad
 
   after-good : stateGood s after ≡ true
@@ -132,7 +133,7 @@ module _ (s : List ℕ) (st : IterState) (out : List ℕ) (z : Sized st) (bad : 
   bad-left = rw (room, ← is-next, done-left s (st .html) (st .«check_duplicates») zeros zeros 0 after-good (roomOf out - 1))
 
   bad-batch : Read 1 Done 0 ≡ leftBatch s st out
-  unfolding leftBatch lentState
+  unfolding leftBatch
   bad-batch = rw (bad-run, bad-left)
 
   bad-text : over out 0 (fiveOf BadState) ≡ over out 0 (fivesOf (runOf (roomOf out) s st))
@@ -140,11 +141,9 @@ module _ (s : List ℕ) (st : IterState) (out : List ℕ) (z : Sized st) (bad : 
   bad-text = rw (bad-run, append-nil (fiveOf BadState))
 
   bad-starts : zeros ≡ leftOf (roomOf out) s st .starts
-  unfolding lentState
   bad-starts = rw bad-left
 
   bad-ends : zeros ≡ leftOf (roomOf out) s st .ends
-  unfolding lentState
   bad-ends = rw bad-left
 
   pub said-bad : (starts ends written : List ℕ) → starts ≡ replicate (length (st .starts)) 0 → ends ≡ replicate (length (st .ends)) 0 → written ≡ over out 0 (fiveOf BadState) → Said s st out (Read 1 Done 0) starts ends written

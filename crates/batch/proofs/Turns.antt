@@ -1,7 +1,7 @@
 -- What one turn of the batch's loop does: the whole batch is what was written so far, and the batch of what is left.
 use Prim.Native.Nat.{ℕ, zero, suc, _+_, _-_, _*_, _/_, _≤_, _<_}
 use mathlib.Core.Path.{_≡_, refl, sym, ap, subst, _∙_}
-use mathlib.Core.Bool.{Bool, true, false}
+use mathlib.Core.Bool.{true, false}
 use mathlib.Core.List.{List, [], _∷_, _++_}
 use native.Mathlib.Omega.{arith}
 use native.Mathlib.Numerals.{add-one}
@@ -9,22 +9,21 @@ use lib.ListN.{length, getD}
 use lib.Dec.{eqb}
 use borrow.Author.Tests.{eq-eqb, ne-eqb}
 use Rattle.scan.specs.First.{pick}
-use Rattle.attributes.specs.declared.Place.{Place}
+use Rattle.scan.specs.Lists.{over}
+use Rattle.scan.proofs.Lists.{over-length, over-none, over-more}
 use Rattle.attributes.specs.declared.Answer.{Answer}
 use Rattle.attributes.specs.declared.Answer.the-variants.{End, DoubleQ, SingleQ, Unquoted, Empty, ExpectedEq, ExpectedValue, UnquotedValue, ExpectedQuote, Duplicated, KeyTableFull, BadState}
-use Rattle.attributes.specs.declared.Outcome.{Outcome}
 use Rattle.attributes.specs.declared.IterState.{IterState}
 use Rattle.attributes.specs.declared.Step.{Step}
-use Rattle.attributes.specs.Next.{Reading, Ready, lent, made, keysOf, stateGood, stepOf, leaves, nextOf}
+use Rattle.attributes.specs.Next.{Reading, Ready, keysOf, stateGood, nextOf}
 use Rattle.attributes.specs.Numbers.{numbersOf}
 use Rattle.attributes.specs.Run.{isEnd, consUnless, runOf}
-use Rattle.attributes.proofs.Whole.{next-steps, next-ready}
+use Rattle.attributes.proofs.Whole.{next-ready}
 use Rattle.attributes.proofs.Good.{Sized, next-stays-good, next-sized}
 use Rattle.batch.specs.declared.Five.{Five}
 use Rattle.batch.specs.declared.Batch.{Batch}
 use Rattle.batch.specs.declared.Batch.the-variants.{Read}
-use Rattle.batch.specs.Batch.{fiveOf, listed, fivesOf, over, leftOf, lentState, Ripe, roomOf, leftBatch}
-use Rattle.batch.proofs.Over.{over-length, over-none, over-more}
+use Rattle.batch.specs.Batch.{fiveOf, listed, fivesOf, leftOf, Ripe, roomOf, leftBatch}
 
 -- every answer is five numbers
 pub five-length : (a : Answer) → length (fiveOf a) ≡ 5
@@ -164,7 +163,7 @@ module _ (s : List ℕ) (first : IterState) (whole : List ℕ) (n : ℕ) (st : I
             fits = omega (arith, room-more whole n (omega (arith, t .size)));
             left = t .left ∙ lefts ∙ rw other;
             many = t .many ∙ rw cons (omega arith);
-            text = t .text ∙ rw cons (over-more out (5 * n) (fiveOf a) rest room' ∙ ap (λ (k : ℕ). over (over out (5 * n) (fiveOf a)) k rest) at);
+            text = t .text ∙ rw cons (over-more out (5 * n) (fiveOf a) room' rest ∙ ap (λ (k : ℕ). over (over out (5 * n) (fiveOf a)) k rest) at);
           }
 
   -- the output is full
@@ -183,11 +182,6 @@ module _ (s : List ℕ) (first : IterState) (whole : List ℕ) (n : ℕ) (st : I
     pub full-text : over whole 0 (fivesOf (runOf (roomOf whole) s first)) ≡ out
     unfolding runOf fivesOf
     full-text = t .text ∙ rw done (over-none out (5 * n))
-
--- a step on lent tables is a step of the state that they make
-pub lent-step : (s : List ℕ) (place : Place) (html checks : Bool) (starts ends : List ℕ) (count : ℕ) (r : Outcome) (starts' ends' : List ℕ) → Ripe s (lentState place html checks starts ends count) → made r starts' ends' ≡ stepOf s html checks (lent starts ends count) place → record { answer = r .answer; state = lentState (r .place) html checks starts' ends' (r .count) } ≡ nextOf s (lentState place html checks starts ends count)
-unfolding lentState leaves keysOf
-lent-step s place html checks starts ends count r starts' ends' ripe e = next-steps s (lentState place html checks starts ends count) (ripe .good) (made r starts' ends') e
 
 -- what the code answers, from the state and the number of answers that are left
 pub batch-left : (s : List ℕ) (first : IterState) (whole : List ℕ) (n : ℕ) (st : IterState) → length (runOf (roomOf whole) s first) ≡ n → leftOf (roomOf whole) s first ≡ st → Read n (st .place) (st .count) ≡ leftBatch s first whole

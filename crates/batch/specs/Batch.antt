@@ -3,11 +3,11 @@ use Prim.Native.Nat.{ℕ, zero, suc, _+_, _/_}
 use mathlib.Core.Path.{_≡_}
 use mathlib.Core.Bool.{Bool, true, false, _&&_}
 use mathlib.Core.List.{List, [], _∷_, _++_}
-use lib.ListN.{length, take, drop, replicate}
+use lib.ListN.{length, take, replicate}
 use lib.Dec.{eqb}
 use Rattle.scan.specs.First.{pick}
+use Rattle.scan.specs.Lists.{over}
 use Rattle.keys.specs.Keys.{capacity}
-use Rattle.attributes.specs.declared.Place.{Place}
 use Rattle.attributes.specs.declared.Answer.{Answer}
 use Rattle.attributes.specs.declared.IterState.{IterState}
 use Rattle.attributes.specs.declared.Step.{Step}
@@ -31,19 +31,10 @@ unfoldable pub fivesOf : List Answer → List ℕ
 fivesOf [] = []
 fivesOf (a ∷ more) = fiveOf a ++ fivesOf more
 
--- xs with ys written over it from n on
-unfoldable pub over : List ℕ → ℕ → List ℕ → List ℕ
-over xs n ys = take n xs ++ (ys ++ drop (n + length ys) xs)
-
 -- the state after n steps, or after the end where that comes first
 unfoldable pub leftOf : ℕ → List ℕ → IterState → IterState
 leftOf zero s st = st
 leftOf (suc n) s st = pick (isEnd (nextOf s st .answer)) (nextOf s st .state) (leftOf n s (nextOf s st .state))
-
--- an iterator whose tables are lent
-unfoldable pub lentState : Place → Bool → Bool → List ℕ → List ℕ → ℕ → IterState
-lentState place html checks starts ends count =
-    record { place = place; html = html; «check_duplicates» = checks; starts = starts; ends = ends; count = count }
 
 -- a state from which a step may be taken on its own tables: 7 does not answer it, and the tables have 256 places each
 pub record Ripe (s : List ℕ) (st : IterState) : Type 0 where

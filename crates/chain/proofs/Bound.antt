@@ -3,47 +3,31 @@
 use Prim.Native.Nat.{ℕ, zero, suc, _+_, _-_, _≤_, _<_}
 use mathlib.Core.Path.{_≡_, refl, sym, ap, _∙_}
 use mathlib.Core.Bool.{true}
-use mathlib.Core.List.{List, [], _∷_, _++_}
+use mathlib.Core.List.{List, _++_}
 use mathlib.Core.Logic.{⊎-elim}
-use native.Mathlib.Nat.{zero-add, suc-add, eq-or-lt-of-le}
+use native.Mathlib.Nat.{eq-or-lt-of-le}
 use native.Mathlib.Omega.{arith}
 use lib.ListN.{length, take, drop, set, getD, length-append, length-set}
-use lib.Seq.{take-nil, length-take-le, take-append-le, take-take, drop-at, getD-set-same, getD-set-other, drop-set-lt}
+use lib.Seq.{length-take-le, drop-at, getD-set-same, getD-set-other, drop-set-lt}
 use Rattle.scan.specs.Bytes.{part}
-use Rattle.table.specs.Lists.{over, allZero}
+use Rattle.scan.specs.Lists.{over}
+use Rattle.scan.proofs.Lists.{part-is, part-same, take-of-over, take-over, drop-over, length-over, over-over}
+use Rattle.table.specs.Lists.{allZero}
 use Rattle.table.specs.Table.{TEXT, RECORDS, textOf, levelBefore, isRecord}
 use Rattle.table.specs.Changes.{boundOf}
 use Rattle.table.specs.declared.NamespaceResolver.{NamespaceResolver}
 use Rattle.lookup.specs.Lookup.{prefixIn, valueStart, valueEnd}
-use Rattle.table.proofs.Lists.{take-over, drop-over, length-over, over-over, zeros-later}
+use Rattle.table.proofs.Lists.{zeros-later}
 use Rattle.table.proofs.Form.{Form, text-next, text-grows}
 
 -- Parts of a list that is written over.
-
-part-of : (s : List ℕ) (a d : ℕ) → take d (drop a s) ≡ drop a (take (a + d) s)
-part-of s zero d = rw (zero-add d)
-part-of [] (suc a) d = rw (take-nil {A = ℕ} d, take-nil {A = ℕ} (suc a + d))
-part-of (x ∷ s) (suc a) d = rw (suc-add a d) (part-of s a d)
-
-part-is : (s : List ℕ) (a e : ℕ) → a ≤ e → part s a e ≡ drop a (take e s)
-unfolding part
-part-is s a e h =
-    let q : a + (e - a) ≡ e = omega arith in
-    part-of s a (e - a) ∙ ap (λ (k : ℕ). drop a (take k s)) q
 
 module _ (t : List ℕ) (n : ℕ) (s : List ℕ) (h : n + length s ≤ length t) where
   front-length : length (take n t) ≡ n
   front-length = length-take-le n t (omega arith)
 
-  pub take-below : (k : ℕ) → k ≤ n → take k (over t n s) ≡ take k t
-  unfolding over
-  take-below k l =
-      take-append-le k (take n t ++ s) (drop (n + length s) t) (omega (arith, length-append (take n t) s, front-length))
-      ∙ take-append-le k (take n t) s (omega (arith, front-length))
-      ∙ take-take k n t l
-
   pub part-below : (a e : ℕ) → a ≤ e → e ≤ n → part (over t n s) a e ≡ part t a e
-  part-below a e l m = part-is (over t n s) a e l ∙ ap (drop a) (take-below e m) ∙ sym (part-is t a e l)
+  part-below a e l m = part-same n (over t n s) t a e (take-of-over n t n s (omega arith) (omega arith)) l m
 
   pub part-there : part (over t n s) n (n + length s) ≡ s
   part-there = part-is (over t n s) n (n + length s) (omega arith) ∙ ap (drop n) (take-over t n s h) ∙ drop-at (take n t) s n front-length
@@ -172,7 +156,7 @@ module _ (x : NamespaceResolver) (p v : List ℕ) (ok : Sound x) (room : 0 < REC
           small = omega (arith, f .small);
           few = omega arith;
           two = omega arith;
-          opening = rw (take-below (x .text) (x .used) (p ++ v) w 73 (ok .past)) (f .opening);
+          opening = rw (take-of-over 73 (x .text) (x .used) (p ++ v) (ok .past) (omega arith)) (f .opening);
           xml = rw (old P (length p) 0 (omega arith), old W (length v) 0 (omega arith), old (x .levels) (x .level) 0 (omega arith)) (f .xml);
           xmlns = rw (old P (length p) 1 (omega arith), old W (length v) 1 (omega arith), old (x .levels) (x .level) 1 (omega arith)) (f .xmlns);
           links = λ k l.

@@ -8,6 +8,7 @@ use native.Mathlib.Omega.{arith}
 use lib.ListN.{drop}
 use Rattle.scan.specs.First.{stopOr, firstOf, firstTo, firstFrom}
 use Rattle.scan.specs.Bytes.{isSpace, notSpace, endsKey, isByte, part, sameBytes, bytesFrom, bytes}
+use Rattle.scan.specs.Lists.{over}
 use Rattle.scan.proofs.Bytes.{same-refl}
 use Rattle.keys.specs.Keys.{keyGood, keyBad, countGood, tableGood, nameAt, sameKey, oldestOf, earlierOf, checkedBy, checkedOf, writtenBy, countBy}
 use Rattle.attributes.specs.Read.{isAt, isQuote, skipTo, skipOf, recoverOf, keyEq, keyTo, keyFrom, keyAt, quoted, closedOf, quotedTo, quotedOf, unquotedTo, otherOf, valueIn, valueFrom, valueAt}
@@ -21,7 +22,7 @@ use Rattle.name.specs.Declares.{opening, isNamed, declaresOf, declaredPrefix}
 use Rattle.name.specs.Verdict.{isEmpty, isOther, isRefused, verdictNamed, verdictOn, verdictOf, verdictNumber}
 use Rattle.name.specs.declared.Verdict.the-variants.{No}
 use Rattle.wellformed.specs.Grammar.{each, some, isIn, oneOf, nameByte, Quote, double, quoteByte, valueByte, byte, pieceText, isPiece, valueText, arePieces, IsValue, Attribute, attributeThen, AttributeBy, attributesThen, textOf, AttributesBy, Absent, Distinct}
-use Rattle.table.specs.Lists.{allBelow, allZero, over}
+use Rattle.table.specs.Lists.{allBelow, allZero}
 use Rattle.table.specs.Table.{LIMIT, builtIn, levelBefore, isRecord, opensBuiltIn, isChain, isRising, isWithin, isClear, isTable, validOf, freshOf}
 use Rattle.table.specs.Table as Table
 use Rattle.table.specs.Changes.{boundOf, roomOf, appendOf}

@@ -12,7 +12,7 @@ use borrow.Author.Tests.{ltb-true, ltb-false, le-leb, lt-leb, leb-true, leb-fals
 use Rattle.scan.specs.First.{pick}
 use Rattle.scan.specs.Bytes.{part}
 use Rattle.scan.proofs.Move.{Window, window-as}
-use Rattle.keys.proofs.Laws.{part-length, part-at}
+use Rattle.scan.proofs.Lists.{part-length, part-at}
 use Rattle.damage.specs.Damage.{Cut, damaged, added, taken, moved, Apart, Outside}
 use Rattle.damage.proofs.Cuts.{apart-before}
 use Rattle.damage.proofs.Sim.{Rel, advance}

@@ -1,38 +1,26 @@
 -- Recorded keys of two tags, of the same bytes: a key that is read in both is found, recorded or refused in both.
-use Prim.Native.Nat.{ℕ, _+_, _-_, _≤_, _<_}
+use Prim.Native.Nat.{ℕ, _+_, _-_, _<_}
 use mathlib.Core.Path.{_≡_, refl, sym, ap, subst, _∙_}
 use mathlib.Core.Bool.{Bool, true, false}
 use mathlib.Core.List.{List}
 use native.Mathlib.Omega.{arith}
 use lib.ListN.{length, getD, set, length-set}
-use lib.Seq.{ext-getD, getD-set-same, getD-set-other}
+use lib.Seq.{getD-set-same, getD-set-other}
 use lib.Dec.{eqb, ltb}
 use borrow.Author.Tests.{ltb-true, ltb-false, eqb-true, eqb-false}
 use Rattle.scan.specs.First.{firstTo, pick}
 use Rattle.scan.specs.Bytes.{part}
 use Rattle.scan.proofs.Laws.{to-first, first-only}
-use Rattle.scan.proofs.Move.{pick-ap, Window, le-move}
+use Rattle.scan.proofs.Move.{pick-ap}
 use Rattle.keys.specs.declared.Earlier.{Earlier}
 use Rattle.keys.specs.declared.Earlier.the-variants.{At, Nothing}
 use Rattle.keys.specs.declared.Checked.{Checked}
 use Rattle.keys.specs.declared.Checked.the-variants.{Fresh, Same, Full}
 use Rattle.keys.specs.Keys.{capacity, nameAt, sameKey, oldestOf, earlierOf, checkedBy, checkedOf, writtenBy, countBy}
-use Rattle.keys.proofs.Laws.{part-length, part-at, earlier-at, earlier-past}
+use Rattle.keys.proofs.Laws.{earlier-at, earlier-past}
 use Rattle.attributes.specs.declared.Span.{Span}
 use Rattle.attributes.specs.Next.{Keys, checkOf, keptBy}
 use Rattle.damage.specs.Damage.{moveSpan}
-
-pub part-move : {f : ℕ → ℕ} {s t : List ℕ} {o m : ℕ} → Window f s t o m → (a e : ℕ) → o ≤ a → a ≤ e → e ≤ m → e ≤ length s
-    → part s a e ≡ part t (f a) (f e)
-part-move {f} {s} {t} w a e lo h hi l =
-    let na = w .near a lo (omega arith) in
-    let ne = w .near e (omega arith) hi in
-    let ls = part-length s a e h l in
-    let lt = part-length t (f a) (f e) (omega arith) (le-move w e (omega arith) hi l) in
-    ext-getD 0 (part s a e) (part t (f a) (f e)) (ls ∙ omega arith ∙ sym lt)
-    (λ i g.
-    let x : f (a + i) ≡ f a + i = omega (arith, w .near (a + i) (omega arith) (omega arith)) in
-    part-at s a e i (omega arith) ∙ w .same (a + i) (omega arith) (omega arith) .byte ∙ ap (λ (k : ℕ). getD t k 0) x ∙ sym (part-at t (f a) (f e) i (omega arith)))
 
 abbrev pub moveEarlier : (ℕ → ℕ) → Earlier → Earlier
 moveEarlier f (At p) = At (f p)

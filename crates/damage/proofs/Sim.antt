@@ -7,7 +7,7 @@ use mathlib.Core.List.{List, [], _∷_, map}
 use native.Mathlib.Omega.{arith}
 use lib.ListN.{length, getD}
 use lib.Dec.{ltb}
-use borrow.Author.Tests.{ltb-false, le-ltb}
+use borrow.Author.Tests.{ltb-false}
 use Rattle.scan.specs.First.{firstFrom, pick}
 use Rattle.scan.specs.Bytes.{isSpace, notSpace}
 use Rattle.scan.proofs.Laws.{first, first-only, past}
@@ -18,12 +18,13 @@ use Rattle.attributes.specs.declared.Start.{Start}
 use Rattle.attributes.specs.declared.Start.the-variants.{From, Ended}
 use Rattle.attributes.specs.declared.Answer.{Answer}
 use Rattle.attributes.specs.declared.Answer.the-variants.{End, DoubleQ, SingleQ, Unquoted, Empty, ExpectedEq, ExpectedValue, UnquotedValue, ExpectedQuote, Duplicated, KeyTableFull, BadState}
-use Rattle.attributes.specs.Read.{found, isQuote, skipTo, skipOf, recoverOf, keyFrom, keyAt, quoted, closedOf, valueAt}
+use Rattle.attributes.specs.Read.{found, isQuote, skipTo, skipOf, recoverOf, quoted, closedOf, valueAt}
 use Rattle.attributes.specs.Next.{Keys, Reading, reading, checkOf, keptBy, valuedBy, valuedTo, valuedOf, readKey, readAt}
 use Rattle.attributes.specs.Run.{isEnd, consUnless, runFrom}
 use Rattle.attributes.proofs.Paths.{next-from, value-bad}
 use Rattle.attributes.proofs.Whole.{StartIn, recover-in}
 use Rattle.attributes.proofs.Progress.{StartPast, step-forward}
+use Rattle.attributes.proofs.Run.{run-end, run-ended}
 use Rattle.damage.specs.Damage.{Marked, kept, struck, was, Cut, whole, cuts, Fits, AllFit, moveSpan, moveAnswer, becomes, Apart}
 use Rattle.damage.proofs.Recorded.{KeysLike, moveChecked}
 use Rattle.damage.proofs.Step.{moveStart, startAt, after-in, key-move, recover-move, ReadLike, checks-move, keeps-move, read-move, read-stops}
@@ -72,17 +73,6 @@ not-space b h = rw h
 
 abbrev cutAt : ℕ → ℕ → List ℕ → Cut
 cutAt v e r = record { at = v; to = e + 1; run = r }
-
-pub run-ended : (n : ℕ) (s : List ℕ) (html checks : Bool) (k : Keys) → runFrom n s html checks k Ended ≡ []
-unfolding runFrom
-run-ended zero s html checks k = refl
-run-ended (suc n) s html checks k = refl
-
--- at the end of the tag there are no more answers
-run-end : (n : ℕ) (s : List ℕ) (html checks : Bool) (k : Keys) (o : ℕ) → length s ≤ o → runFrom n s html checks k (From o) ≡ []
-unfolding runFrom readAt readKey keyAt keyFrom isEnd consUnless
-run-end zero s html checks k o h = refl
-run-end (suc n) s html checks k o h = rw (past notSpace s o h, le-ltb o (length s) h)
 
 -- the damaged step
 module _ {f : ℕ → ℕ} {s t : List ℕ} {o : ℕ} {checks : Bool} {ks kt : Keys} {key : Span} {eq v e m : ℕ} {r : List ℕ}

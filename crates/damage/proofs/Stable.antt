@@ -6,7 +6,7 @@ use mathlib.Core.List.{List, _++_}
 use native.Mathlib.Omega.{arith}
 use lib.ListN.{length, getD, length-append, List·getD-append}
 use borrow.Author.Tests.{lt-ltb}
-use Rattle.scan.proofs.Move.{Window}
+use Rattle.scan.proofs.Move.{Window, part-move}
 use Rattle.keys.specs.declared.Checked.{Checked}
 use Rattle.keys.specs.declared.Checked.the-variants.{Fresh, Same, Full}
 use Rattle.keys.specs.Keys.{KeysIn, nameAt}
@@ -25,7 +25,7 @@ use Rattle.attributes.proofs.Whole.{at-in, starts-in}
 use Rattle.attributes.proofs.Ways.{step-ways}
 use Rattle.damage.specs.Damage.{moveAnswer, movePlace}
 use Rattle.damage.specs.Stable.{Agree, NextStable}
-use Rattle.damage.proofs.Recorded.{NamesLike, moveChecked, part-move}
+use Rattle.damage.proofs.Recorded.{NamesLike, moveChecked}
 use Rattle.damage.proofs.Step.{moveFound, key-move, place-move, bare-move, valued-move, look-past, checks-move, recover-move}
 use Rattle.damage.proofs.Begin.{begins, good-move}
 

@@ -10,7 +10,7 @@ use borrow.Author.Tests.{lt-ltb, ltb-true, ltb-false, le-leb}
 use Rattle.scan.specs.First.{firstFrom, pick}
 use Rattle.scan.specs.Bytes.{isSpace, notSpace, endsKey, isByte, part}
 use Rattle.scan.proofs.Laws.{first, picks}
-use Rattle.scan.proofs.Move.{pick-ap, Window, lt-move, ge-move, f-suc, le-move, end-move, scan-move, scan-next}
+use Rattle.scan.proofs.Move.{pick-ap, Window, lt-move, ge-move, f-suc, le-move, end-move, scan-move, scan-next, part-move}
 use Rattle.keys.specs.declared.Checked.{Checked}
 use Rattle.keys.specs.declared.Checked.the-variants.{Fresh, Same, Full}
 use Rattle.attributes.specs.declared.Span.{Span}
@@ -30,7 +30,7 @@ use Rattle.attributes.proofs.Whole.{KeyBy, at-in}
 use Rattle.attributes.proofs.Ways.{value-ways, step-ways}
 use Rattle.attributes.proofs.Progress.{After}
 use Rattle.damage.specs.Damage.{moveSpan, moveAnswer, movePlace}
-use Rattle.damage.proofs.Recorded.{NamesLike, KeysLike, moveChecked, part-move, check-move, kept-move}
+use Rattle.damage.proofs.Recorded.{NamesLike, KeysLike, moveChecked, check-move, kept-move}
 
 abbrev pub moveKey : (ℕ → ℕ) → KeyRead → KeyRead
 moveKey f NoKey = NoKey

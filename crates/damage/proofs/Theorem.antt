@@ -8,8 +8,9 @@ use native.Mathlib.Omega.{arith}
 use lib.ListN.{length, length-replicate}
 use lib.Seq.{ext-getD}
 use Rattle.scan.specs.Bytes.{part}
+use Rattle.scan.proofs.Lists.{part-length, part-at}
 use Rattle.keys.specs.Keys.{capacity, KeysIn, tableGood}
-use Rattle.keys.proofs.Laws.{part-length, part-at, in-table, keys-none}
+use Rattle.keys.proofs.Laws.{in-table, keys-none}
 use Rattle.attributes.specs.declared.Place.{Place}
 use Rattle.attributes.specs.declared.Place.the-variants.{Done, Next, SkipValue, SkipEqValue}
 use Rattle.attributes.specs.declared.Start.{Start}
@@ -22,13 +23,13 @@ use Rattle.attributes.specs.Next.{Keys, placeGood, keysOf, stateGood, badReadin
 use Rattle.attributes.specs.Run.{isEnd, consUnless, runOf, answersOf, runFrom, answersFrom}
 use Rattle.attributes.proofs.Whole.{StartIn, starts-in, next-bad}
 use Rattle.attributes.proofs.Good.{Sized, next-stays-good, next-sized}
-use Rattle.attributes.proofs.Run.{left, from-more, lent-resumes, run-lent, answers-resume}
+use Rattle.attributes.proofs.Run.{left, from-more, lent-resumes, run-lent, answers-resume, run-ended}
 use Rattle.damage.specs.Damage.{NoneRecorded, Marked, kept, struck, was, Cut, cuts, damaged, AllFit, added, taken, moved, moveAnswer, movePlace, becomes, Apart, Stands, Hurt, DamageMoves}
 use Rattle.damage.proofs.Recorded.{like-none}
 use Rattle.damage.proofs.Step.{moveStart, startAt, recover-move}
 use Rattle.damage.proofs.Begin.{position, begins, good-move}
 use Rattle.damage.proofs.Cuts.{quoted-good, apart-before, cuts-apart}
-use Rattle.damage.proofs.Sim.{Rel, bound, window-of, bound-past, run-ended, sim}
+use Rattle.damage.proofs.Sim.{Rel, bound, window-of, bound-past, sim}
 use Rattle.damage.proofs.Cutting.{rel-of, moved-before, taken-less, outside-before, rel-as}
 
 -- the place where reading begins does not move

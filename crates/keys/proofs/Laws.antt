@@ -7,29 +7,22 @@ use mathlib.Core.Logic.{⊎-elim}
 use mathlib.Core.List.{List}
 use native.Mathlib.Nat.{le-of-lt, eq-or-lt-of-le}
 use native.Mathlib.Omega.{arith}
-use lib.ListN.{length, getD, set, take, drop, length-take, length-drop, length-set}
-use lib.Seq.{getD-take, getD-drop, getD-set-same, getD-set-other, ext-getD}
+use lib.ListN.{length, getD, set, take, drop, length-set}
+use lib.Seq.{getD-set-same, getD-set-other, ext-getD}
 use lib.Dec.{ltb, leb}
 use borrow.Author.Tests.{eq-eqb, ne-eqb, lt-ltb, le-ltb, ltb-true, ltb-false, le-leb, lt-leb, leb-true, not-false}
 use Rattle.scan.specs.First.{firstTo, pick}
 use Rattle.scan.specs.Bytes.{part, isByte, sameBytes}
 use Rattle.scan.proofs.Laws.{IsFirst, to-hit, to-past, to-first, to-skip, first-only}
 use Rattle.scan.proofs.Bytes.{both, same-refl, same-eq, same-ne}
+use Rattle.scan.proofs.Lists.{part-length, part-at}
 use Rattle.keys.specs.declared.Earlier.{Earlier}
 use Rattle.keys.specs.declared.Earlier.the-variants.{At, Nothing}
 use Rattle.keys.specs.declared.Checked.{Checked}
 use Rattle.keys.specs.declared.Checked.the-variants.{Fresh, Same, Full}
 use Rattle.keys.specs.Keys.{capacity, keyGood, keyBad, countGood, tableGood, KeysIn, EndsIn, Room, nameAt, lastIs, sameKey, oldestOf, earlierOf, checkedBy, checkedOf, writtenBy, countBy}
 
--- Parts of a tag
-
-pub part-length : (s : List ℕ) (a e : ℕ) → a ≤ e → e ≤ length s → length (part s a e) ≡ e - a
-unfolding part
-part-length s a e h l = simp (length-take, length-drop) (omega arith)
-
-pub part-at : (s : List ℕ) (a e i : ℕ) → i < e - a → getD (part s a e) i 0 ≡ getD s (a + i) 0
-unfolding part
-part-at s a e i h = rw (getD-take, getD-drop)
+-- Two parts of a tag
 
 module _ (s : List ℕ) (a e b f : ℕ) (ha : a ≤ e) (he : e ≤ length s) (hb : b ≤ f) (hf : f ≤ length s) where
   -- of one length, with the same bytes

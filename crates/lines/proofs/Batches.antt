@@ -10,27 +10,23 @@ use lib.Seq.{take-at}
 use lib.Dec.{leb}
 use borrow.Author.Tests.{leb-true, leb-false}
 use Rattle.scan.specs.First.{pick}
+use Rattle.scan.specs.Lists.{over}
+use Rattle.scan.proofs.Lists.{over-length}
 use Rattle.attributes.specs.declared.Answer.{Answer}
 use Rattle.attributes.specs.declared.Place.{Place}
 use Rattle.attributes.specs.declared.IterState.{IterState}
-use Rattle.attributes.specs.Next.{nextOf, leaves}
+use Rattle.attributes.specs.Next.{nextOf, leaves, lentState}
 use Rattle.attributes.specs.Run.{isEnd, consUnless, runOf, answersOf}
-use Rattle.attributes.proofs.Run.{run-whole}
+use Rattle.attributes.proofs.Run.{cons-most, run-whole}
 use Rattle.attributes.proofs.Good.{Sized, next-sized}
 use Rattle.batch.specs.declared.Batch.{Batch}
 use Rattle.batch.specs.declared.Batch.the-variants.{Read, WrongTables}
-use Rattle.batch.specs.Batch.{fiveOf, fivesOf, over, leftOf, lentState, tablesFit, roomOf, readOf, afterOf, writtenOf, leftBatch, batchOf}
+use Rattle.batch.specs.Batch.{fiveOf, fivesOf, leftOf, tablesFit, roomOf, readOf, afterOf, writtenOf, leftBatch, batchOf}
 use Rattle.batch.proofs.Turns.{five-length}
-use Rattle.batch.proofs.Over.{over-length}
 use Rattle.batch.proofs.Ends.{fit}
 use Rattle.lines.specs.Page.{answersIn}
 
 -- A run of n answers.
-
-cons-most : (n : ℕ) (t : Bool) (a : Answer) (more : List Answer) → length more ≤ n → length (consUnless t a more) ≤ suc n
-unfolding consUnless
-cons-most n true a more h = omega arith
-cons-most n false a more h = omega arith
 
 pub run-most : (n : ℕ) (s : List ℕ) (st : IterState) → length (runOf n s st) ≤ n
 unfolding runOf
@@ -177,7 +173,6 @@ modes (suc n) s st = modes-of (isEnd (nextOf s st .answer)) st (nextOf s st .sta
   modes-of false st x y a b c = (c .0 ∙ a, c .1 ∙ b)
 
 state-is : (x : IterState) {place : Place} {html checks : Bool} {starts ends : List ℕ} {count : ℕ} → place ≡ x .place → html ≡ x .html → checks ≡ x .«check_duplicates» → starts ≡ x .starts → ends ≡ x .ends → count ≡ x .count → lentState place html checks starts ends count ≡ x
-unfolding lentState
 state-is x a b c d e f = rw (a, b, c, d, e, f)
 
 -- What a caller has after a batch on its own tables.
@@ -201,7 +196,7 @@ module _ (s : List ℕ) (place : Place) (html checks : Bool) (starts ends : List
           cc
 
       pub read-left : {starts' ends' : List ℕ} → starts' ≡ afterOf s stood out .starts → ends' ≡ afterOf s stood out .ends → lentState next html checks starts' ends' keys ≡ leftOf (roomOf out) s stood
-      unfolding leftBatch lentState
+      unfolding leftBatch
       read-left es ee =
           let f = fit-batch s stood out z in
           let m = modes (roomOf out) s stood in

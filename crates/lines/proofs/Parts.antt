@@ -5,19 +5,14 @@ use mathlib.Core.List.{List, [], _∷_, _++_, append-assoc}
 use native.Mathlib.Numerals.{add-one}
 use native.Mathlib.Omega.{arith}
 use lib.ListN.{length, take, drop, set, length-append}
-use lib.Seq.{paste, take-length, set-split}
-use Rattle.batch.specs.Batch.{over}
-use Rattle.batch.proofs.Over.{over-length, over-none, over-more}
-
--- a copy of a whole text
-pub paste-over : (out : List ℕ) (at : ℕ) (text : List ℕ) → paste out at text (length text) ≡ over out at text
-unfolding over
-paste-over out at text = rw (take-length text) (append-assoc (take at out) text (drop (at + length text) out))
+use lib.Seq.{set-split}
+use Rattle.scan.specs.Lists.{over}
+use Rattle.scan.proofs.Lists.{over-length, over-none, over-more}
 
 -- one byte
 pub store-over : (out : List ℕ) (at v : ℕ) → at < length out → set out at v ≡ over out at (v ∷ [])
 unfolding over
-store-over out at v h = set-split out at v h ∙ rw (sym (add-one at))
+store-over out at v h = set-split out at v h ∙ rw (append-assoc (take at out) (v ∷ []) (drop (at + 1) out), sym (add-one at))
 
 -- `whole` is to stand in `first` from `from` on; `out` has it up to `at`, and `rest` is left.
 pub record Part (first : List ℕ) (from : ℕ) (whole out : List ℕ) (at : ℕ) (rest : List ℕ) : Type 0 where
@@ -33,7 +28,7 @@ module _ {first : List ℕ} {from : ℕ} {whole : List ℕ} (out : List ℕ) (at
   part-next x rest h p =
       record {
         size = over-length out at x h ∙ p .size;
-        text = p .text ∙ over-more out at x rest h;
+        text = p .text ∙ over-more out at x h rest;
         many = omega (arith, p .many, length-append x rest);
       }
 

@@ -10,13 +10,14 @@ use lib.ListN.{length, take, drop, getD, set, length-append, length-set, length-
 use lib.Seq.{drop-cons, drop-drop, drop-length, take-at, drop-at}
 use lib.Dec.{eqb, ltb, leb}
 use borrow.Author.Tests.{lt-ltb, le-ltb, leb-true, leb-false}
+use Rattle.scan.specs.Lists.{over}
 use Rattle.io.specs.Digits.{digits, glyph, Fewest}
 use Rattle.scan.specs.First.{pick, firstTo}
 use Rattle.scan.proofs.Laws.{IsFirst, to-first, first-only, picks}
 use Rattle.attributes.specs.declared.Answer.{Answer}
 use Rattle.attributes.specs.declared.Answer.the-variants.{End, DoubleQ, SingleQ, Unquoted, Empty, ExpectedEq, ExpectedValue, UnquotedValue, ExpectedQuote, Duplicated, KeyTableFull, BadState}
 use Rattle.attributes.specs.Numbers.{numbersOf}
-use Rattle.batch.specs.Batch.{fiveOf, fivesOf, over}
+use Rattle.batch.specs.Batch.{fiveOf, fivesOf}
 use Rattle.batch.proofs.Turns.{five-length}
 use Rattle.lines.proofs.Parts.{Part, part-first, part-byte, part-next, part-last}
 use Rattle.lines.specs.Lines.{placesOf, decimalOf, spaced, letterOf, shownFrom, lineOf, linesOf, valuesOf, ownOf, fiveLines, linesIn}

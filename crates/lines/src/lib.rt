@@ -10,7 +10,9 @@ use batch::Batch;
 ghost use mathlib.Core.Path.{_≡_};
 ghost use Prim.Native.Nat.{_+_, _*_, _≤_};
 ghost use lib.ListN.{length};
-ghost use Rattle.batch.specs.Batch.{over, lentState, batchOf, afterOf, writtenOf};
+ghost use Rattle.scan.specs.Lists.{over};
+ghost use Rattle.attributes.specs.Next.{lentState};
+ghost use Rattle.batch.specs.Batch.{batchOf, afterOf, writtenOf};
 ghost use Rattle.lines.specs.Lines.{decimalOf, spaced, letterOf, shownFrom, valuesOf, ownOf, lineOf, linesIn};
 ghost use Rattle.lines.specs.Page.{answersIn, pageOf};
 

@@ -10,13 +10,13 @@ use native.Mathlib.Nat.{add-zero, add-suc, not-suc-le-zero}
 use native.Mathlib.Numerals.{sub-one}
 use native.Mathlib.Omega.{arith}
 use lib.Dec.{eqb, leb, ltb}
-use lib.ListN.{length, getD, length-take, length-drop}
-use lib.Seq.{getD-take, getD-drop}
+use lib.ListN.{length, getD}
 use borrow.Author.Tests.{eq-eqb, ne-eqb, eqb-false, lt-leb, le-leb, ltb-true, ltb-false}
 use Rattle.scan.specs.First.{pick, firstTo}
 use Rattle.scan.specs.Bytes.{part, sameBytes}
 use Rattle.scan.proofs.Laws.{picks, to-skip, to-past}
 use Rattle.scan.proofs.Bytes.{same-ne, same-length}
+use Rattle.scan.proofs.Lists.{part-length, part-at}
 use Rattle.name.specs.Split.{colonAt, hasColon, colonOf}
 use Rattle.name.specs.declared.Colon.{Colon}
 use Rattle.name.specs.declared.Colon.the-variants.{At, Nowhere}
@@ -61,15 +61,11 @@ module _ (p : ℕ → Bool) where
   last-within zero = omega arith
   last-within (suc n) = last-step n (last-within n) (p n) refl
 
-part-at : (s : List ℕ) (a e i : ℕ) → i < e - a → getD (part s a e) i 0 ≡ getD s (a + i) 0
-unfolding part
-part-at s a e i h = rw (getD-take, getD-drop)
-
 -- a record's prefix beside another one, q
 module _ (T S P q : List ℕ) (i : ℕ) (h : getD S i 0 + getD P i 0 ≤ length T) where
   prefix-length : length (prefixIn T S P i) ≡ getD P i 0
-  unfolding prefixIn part
-  prefix-length = simp (length-take, length-drop) (omega arith)
+  unfolding prefixIn
+  prefix-length = part-length T (getD S i 0) (getD S i 0 + getD P i 0) (omega arith) h ∙ omega arith
 
   -- of two lengths
   pub unlike-length : (getD P i 0 ≡ length q → ⊥) → hasPrefix T S P q i ≡ false

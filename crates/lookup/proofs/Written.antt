@@ -9,9 +9,9 @@ use lib.Dec.{ltb}
 use lib.ListN.{length, drop, set, getD, length-append}
 use lib.Seq.{drop-cons, set-at, append-snoc}
 use borrow.Author.Tests.{ltb-true, ltb-false}
+use Rattle.scan.specs.Lists.{over}
 use Rattle.scan.proofs.Laws.{picks}
-use Rattle.table.specs.Lists.{over}
-use Rattle.table.proofs.Lists.{length-over}
+use Rattle.scan.proofs.Lists.{length-over}
 use Rattle.lookup.specs.Many.{upTo, leastOf}
 
 pub upto-length : (f : ℕ → ℕ) (n : ℕ) → length (upTo f n) ≡ n

@@ -4,7 +4,7 @@ use mathlib.Core.List.{List, [], _∷_, _++_}
 use lib.ListN.{length, getD}
 use lib.Dec.{ltb}
 use Rattle.scan.specs.First.{pick}
-use Rattle.table.specs.Lists.{over}
+use Rattle.scan.specs.Lists.{over}
 use Rattle.table.specs.Table.{validOf}
 use Rattle.table.specs.declared.NamespaceResolver.{NamespaceResolver}
 use Rattle.lookup.specs.Lookup.{splitOf, inside}

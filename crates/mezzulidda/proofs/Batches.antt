@@ -8,14 +8,15 @@ use lib.ListN.{length, getD, set, drop}
 use lib.Dec.{eqb}
 use borrow.Author.Tests.{eq-eqb, ne-eqb}
 use Rattle.scan.specs.First.{pick}
+use Rattle.scan.proofs.Lists.{over-none}
 use Rattle.attributes.specs.declared.Place.{Place}
 use Rattle.attributes.specs.declared.IterState.{IterState}
 use Rattle.attributes.specs.Run.{runOf}
+use Rattle.attributes.specs.Next.{lentState}
 use Rattle.batch.specs.declared.Batch.{Batch}
 use Rattle.batch.specs.declared.Batch.the-variants.{Read, WrongTables}
-use Rattle.batch.proofs.Over.{over-none}
 use Rattle.batch.proofs.Ends.{Said}
-use Rattle.batch.specs.Batch.{fivesOf, lentState, tablesFit, roomOf, readOf, leftOf, afterOf, writtenOf, leftBatch, batchOf}
+use Rattle.batch.specs.Batch.{fivesOf, tablesFit, roomOf, readOf, leftOf, afterOf, writtenOf, leftBatch, batchOf}
 use Rattle.mezzulidda.specs.Reading.{placeFrom, kindOf, positionOf, heldIn, stateOf, Reading, reading, NONE, batchIn, readBatchOf}
 
 -- three numbers written one after another
@@ -72,7 +73,7 @@ module _ (tag starts ends state out : List ℕ) (html checks : Bool) where
 
     -- tables of another length
     pub tables-refused : (b : Batch) → b ≡ WrongTables → Said tag (lentState place html checks starts ends (getD state 2 0)) out b starts′ ends′ out′ → reading NONE starts′ ends′ state out′ ≡ readBatchOf tag starts ends state out html checks
-    unfolding readBatchOf batchOf lentState
+    unfolding readBatchOf batchOf
     tables-refused b e (eb, es, ee, eo) =
         let st = lentState place html checks starts ends (getD state 2 0) in
         let f = wrong-by tag out st (tablesFit st) (sym e ∙ eb) in

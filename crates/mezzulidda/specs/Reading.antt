@@ -8,7 +8,8 @@ use Rattle.scan.specs.First.{pick}
 use Rattle.attributes.specs.declared.Place.{Place}
 use Rattle.attributes.specs.declared.Place.the-variants.{Done, Next, SkipValue, SkipEqValue}
 use Rattle.attributes.specs.declared.IterState.{IterState}
-use Rattle.batch.specs.Batch.{lentState, tablesFit, readOf, afterOf, writtenOf}
+use Rattle.attributes.specs.Next.{lentState}
+use Rattle.batch.specs.Batch.{tablesFit, readOf, afterOf, writtenOf}
 
 -- A place as its kind and its position: 0 done, 1 next, 2 skip value, 3 skip from `=`. Another kind is no place that
 -- reading leaves, so it is read as a value to be skipped at the tag's end, which refusal 7 answers. Position beside done

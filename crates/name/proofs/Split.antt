@@ -6,18 +6,14 @@ use mathlib.Core.Bool.{Bool, true, false, true≢false}
 use mathlib.Core.List.{List, [], _∷_, _++_}
 use native.Mathlib.Numerals.{add-one}
 use native.Mathlib.Omega.{arith}
-use lib.ListN.{length, take, drop, getD, length-append, length-drop, List·getD-append}
-use lib.Seq.{take-all, length-take-le, getD-take, split-at, take-append-seam, drop-append-add, getD-append-seam}
+use lib.ListN.{length, take, drop, getD, length-append, List·getD-append}
+use lib.Seq.{length-take-le, getD-take, split-at, take-append-seam, drop-append-add, getD-append-seam}
 use borrow.Author.Tests.{lt-ltb, le-ltb, ltb-true, ltb-false, eqb-true}
 use Rattle.scan.specs.Bytes.{isByte}
 use Rattle.name.specs.Split.{colonAt, hasColon, colonOf, prefixOf, localAt, localOf, partsOf}
 use Rattle.name.specs.declared.Colon.the-variants.{At, Nowhere}
 use Rattle.name.specs.declared.Parts.{Parts}
 use Rattle.scan.proofs.Laws.{IsFirst, first, first-only}
-
--- `&s[n..]` is the part from n to the end
-pub to-end : (n : ℕ) (s : List ℕ) → take (length s - n) (drop n s) ≡ drop n s
-to-end n s = take-all (length s - n) (drop n s) (simp length-drop (omega arith))
 
 -- a colon at a place below the length
 module _ (name : List ℕ) (at : ℕ) (e : at ≡ colonAt name) (h : at < length name) where

@@ -2,7 +2,7 @@
 -- refusals 12 to 15 comes.
 use Prim.Native.Nat.{ℕ}
 use mathlib.Core.Path.{_≡_, refl, sym, ap, _∙_}
-use mathlib.Core.Bool.{Bool, true, false, not, _&&_, _||_, true≢false, false≢true}
+use mathlib.Core.Bool.{Bool, true, false, not, _&&_, _||_, false≢true}
 use mathlib.Core.List.{List, [], _∷_}
 use mathlib.Core.Logic.{⊎-elim}
 use native.Mathlib.Omega.{arith}
@@ -13,6 +13,7 @@ use lib.Dec.{eqb, ltb}
 use borrow.Author.Tests.{eqb-false, eq-eqb, ne-eqb, not-true, not-false}
 use Rattle.scan.specs.First.{pick, firstFrom, firstTo, firstOf, stopOr}
 use Rattle.scan.specs.Bytes.{bytes, bytesFrom, sameBytes, isByte}
+use Rattle.scan.proofs.Bytes.{both-false}
 use Rattle.name.specs.Split.{hasColon, colonAt}
 use Rattle.name.specs.Reserved.{xmlPrefix, xmlnsPrefix, xmlUri, xmlnsUri, isXml, isXmlns, isXmlUri, isXmlnsUri}
 use Rattle.name.specs.Bind.{reservedBind, numberOf}
@@ -174,10 +175,6 @@ neither false b h = (refl, h)
 not-both : (a b : Bool) → (a && b) ≡ false → a ≡ true → b ≡ false
 not-both true b h e = h
 not-both false b h e = absurd (false≢true e)
-
-both-false : (a b : Bool) → (a || b) ≡ false → (a ≡ false) × (b ≡ false)
-both-false true b h = absurd (true≢false h)
-both-false false b h = (refl, h)
 
 -- A yes says that every clause of the rule passes.
 pub yes-means : (prefix value : List ℕ) → verdictNamed prefix value ≡ true → Allowed prefix value

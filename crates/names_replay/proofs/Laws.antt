@@ -1,7 +1,7 @@
 -- The laws of the replay: tests joined by `&&`, one record, and one turn of the run.
 use Prim.Native.Nat.{ℕ, zero, suc, _+_, _-_, _≤_, _<_}
 use mathlib.Core.Path.{_≡_, refl, sym, ap, _∙_}
-use mathlib.Core.Bool.{Bool, true, false, _&&_}
+use mathlib.Core.Bool.{Bool, true, false}
 use mathlib.Core.List.{List}
 use native.Mathlib.Omega.{arith}
 use lib.ListN.{length, take, drop, length-drop}
@@ -9,12 +9,12 @@ use lib.Dec.{eqb, ltb}
 use borrow.Author.Tests.{lt-ltb, le-ltb, ltb-false, eq-eqb, ne-eqb}
 use Rattle.scan.specs.First.{pick}
 use Rattle.scan.specs.Bytes.{part}
+use Rattle.scan.proofs.Lists.{to-end}
 use Rattle.name.specs.Declares.{declaresOf, declaresNumber, declaredPrefix}
 use Rattle.names_replay.specs.declared.Step.{Step}
 use Rattle.names_replay.specs.declared.Step.the-variants.{Agrees, Differs, Cut}
 use Rattle.names_replay.specs.declared.End.the-variants.{All, Differs as DiffersAt, Cut as CutAt}
 use Rattle.names_replay.specs.Replay.{twoAt, startNumber, agreesWith, recordOf, sizeOf, stopped, follow, replayFrom, replayOf}
-use Rattle.name.proofs.Split.{to-end}
 
 -- two numbers of the code, and what they are
 pub on : {a b x y : ℕ} → a ≡ x → b ≡ y → a ≡ b → eqb x y ≡ true
@@ -22,12 +22,6 @@ on {a} {b} {x} {y} p q e = eq-eqb x y (sym p ∙ e ∙ q)
 
 pub off : {a b x y : ℕ} → a ≡ x → b ≡ y → (a ≡ b → ⊥) → eqb x y ≡ false
 off {a} {b} {x} {y} p q n = ne-eqb x y (λ e. n (p ∙ e ∙ sym q))
-
-pub and-on : {a b r : Bool} → a ≡ true → r ≡ b → r ≡ (a && b)
-and-on h e = rw h e
-
-pub and-off : {a : Bool} (b : Bool) → a ≡ false → false ≡ (a && b)
-and-off b h = rw h
 
 -- where the declared prefix starts
 module _ (name : List ℕ) {n : ℕ} (e : n ≡ declaresNumber (declaresOf name)) where

@@ -3,7 +3,7 @@
 -- the state after it.
 use Prim.Native.Nat.{ℕ, zero, suc, _+_, _-_, _≤_, _<_}
 use mathlib.Core.Path.{_≡_, refl, sym, ap, subst, _∙_}
-use mathlib.Core.Bool.{Bool, true, false, false≢true}
+use mathlib.Core.Bool.{Bool, true, false}
 use mathlib.Core.List.{List, [], _∷_}
 use mathlib.Core.Logic.{⊎-elim}
 use native.Mathlib.Omega.{arith}
@@ -26,22 +26,21 @@ use Rattle.attributes.specs.declared.Step.{Step}
 use Rattle.attributes.specs.declared.Truth.{Truth}
 use Rattle.attributes.specs.declared.Truth.the-variants.{Yes, No, Neither}
 use Rattle.attributes.specs.Read.{recoverOf}
-use Rattle.attributes.specs.Next.{Keys, Ready, lent, made, readAt, stepFrom, stepOf, keysOf, stateGood, noKeys, badReading, leaves, nextOf}
+use Rattle.attributes.specs.Next.{Ready, lent, made, stepOf, keysOf, stateGood, noKeys, badReading, leaves, nextOf, lentState}
 use Rattle.attributes.specs.Run.{isEnd}
 use Rattle.attributes.specs.Parts.{keyPart, valuePart, truthOf}
 use Rattle.attributes.proofs.Answer as A
 use Rattle.attributes.proofs.Truth as T
-use Rattle.attributes.proofs.Whole.{starts-in, next-bad, next-steps, next-ready}
-use Rattle.attributes.proofs.Progress.{StartPast, step-forward, resume-past}
+use Rattle.attributes.proofs.Whole.{lent-step, next-bad, next-steps, next-ready}
 use Rattle.attributes.proofs.Good.{Sized, next-stays-good, next-sized}
+use Rattle.attributes.proofs.Run.{todo, todo-falls}
 use Rattle.table.specs.Table.{validOf}
 use Rattle.table.specs.declared.NamespaceResolver.{NamespaceResolver}
 use Rattle.lookup.specs.Lookup.{resolveOf, uriPart}
-use Rattle.push.proofs.Laws.{todo}
 use Rattle.nil.specs.declared.HasNil.{HasNil}
 use Rattle.nil.specs.declared.Outcome as Left
 use Rattle.nil.specs.declared.Nil.the-variants as Nil
-use Rattle.nil.specs.Nil.{said, iterator, isYes, instanceUri, isNil, saysNil, searchOf, searched, hasNilOf}
+use Rattle.nil.specs.Nil.{said, isYes, instanceUri, isNil, saysNil, searchOf, searched, hasNilOf}
 
 -- One attribute.
 
@@ -74,28 +73,12 @@ todo-most : (l : ℕ) (x : Start) → todo l x ≤ suc l
 todo-most l (From o) = omega arith
 todo-most l Ended = omega arith
 
-todo-past : (l o : ℕ) (x : Start) → StartPast l o x → todo l x < suc (l - o)
-unfolding StartPast
-todo-past l o (From w) h = omega (arith, h .0, h .1)
-todo-past l o Ended h = omega arith
-
-falls-by : (s : List ℕ) (html checks : Bool) (keys : Keys) (place : Place) (x : Start) → recoverOf s place ≡ x → isEnd (stepFrom s html checks keys place x .answer) ≡ false → todo (length s) (recoverOf s (stepFrom s html checks keys place x .place)) < todo (length s) x
-unfolding stepFrom isEnd
-falls-by s html checks keys place Ended e z = absurd (false≢true (sym z))
-falls-by s html checks keys place (From o) e z =
-    let r = readAt s html checks keys o in
-    todo-past (length s) o (recoverOf s (r .place)) (resume-past s o (r .place) (step-forward s html checks keys o (starts-in s place o e)))
-
-step-falls : (s : List ℕ) (html checks : Bool) (keys : Keys) (place : Place) → isEnd (stepOf s html checks keys place .answer) ≡ false → todo (length s) (recoverOf s (stepOf s html checks keys place .place)) < todo (length s) (recoverOf s place)
-unfolding stepOf
-step-falls s html checks keys place = falls-by s html checks keys place (recoverOf s place) refl
-
 -- an answer that is not the end leaves less
 pub next-falls : (s : List ℕ) (st : IterState) → stateGood s st ≡ true → isEnd (nextOf s st .answer) ≡ false → unread s (nextOf s st .state) < unread s st
 unfolding leaves
 next-falls s st good =
     subst (λ (y : Step). isEnd (y .answer) ≡ false → unread s (y .state) < unread s st) (next-steps s st good _ refl)
-    (step-falls s (st .html) (st .«check_duplicates») (keysOf st) (st .place))
+    (todo-falls s (st .html) (st .«check_duplicates») (keysOf st) (st .place))
 
 -- Budgets.
 
@@ -163,25 +146,24 @@ pub says-by : (x : NamespaceResolver) (s : List ℕ) (a : Answer) (key value : L
 unfolding saysNil
 says-by x s a key value b t k v e h = rw (sym k, sym v) (sym e ∙ h)
 
--- A step on lent tables is a step of the iterator that they make, and leaves one as good.
-module _ (s : List ℕ) (place : Place) (html checks : Bool) (starts ends : List ℕ) (count : ℕ) (z : Sized (iterator place html checks starts ends count)) (g : stateGood s (iterator place html checks starts ends count) ≡ true) where
+-- A step on lent tables leaves an iterator as good.
+module _ (s : List ℕ) (place : Place) (html checks : Bool) (starts ends : List ℕ) (count : ℕ) (z : Sized (lentState place html checks starts ends count)) (g : stateGood s (lentState place html checks starts ends count) ≡ true) where
   pub lent-ready : Ready s checks (lent starts ends count) place
   unfolding keysOf
-  lent-ready = next-ready s (iterator place html checks starts ends count) g (z .starts) (z .ends)
+  lent-ready = next-ready s (lentState place html checks starts ends count) g (z .starts) (z .ends)
 
   module _ (r : Outcome) (starts' ends' : List ℕ) (e : made r starts' ends' ≡ stepOf s html checks (lent starts ends count) place) where
-    pub lent-step : record { answer = r .answer; state = iterator (r .place) html checks starts' ends' (r .count) } ≡ nextOf s (iterator place html checks starts ends count)
-    unfolding leaves keysOf
-    lent-step = next-steps s (iterator place html checks starts ends count) g (made r starts' ends') e
+    step : record { answer = r .answer; state = lentState (r .place) html checks starts' ends' (r .count) } ≡ nextOf s (lentState place html checks starts ends count)
+    step = lent-step s place html checks starts ends count g r starts' ends' e
 
-    pub lent-good : stateGood s (iterator (r .place) html checks starts' ends' (r .count)) ≡ true
-    lent-good = subst (λ (y : Step). stateGood s (y .state) ≡ true) (sym lent-step) (next-stays-good s (iterator place html checks starts ends count) z)
+    pub lent-good : stateGood s (lentState (r .place) html checks starts' ends' (r .count)) ≡ true
+    lent-good = subst (λ (y : Step). stateGood s (y .state) ≡ true) (sym step) (next-stays-good s (lentState place html checks starts ends count) z)
 
-    pub lent-sized : Sized (iterator (r .place) html checks starts' ends' (r .count))
-    lent-sized = subst (λ (y : Step). Sized (y .state)) (sym lent-step) (next-sized s (iterator place html checks starts ends count) z)
+    pub lent-sized : Sized (lentState (r .place) html checks starts' ends' (r .count))
+    lent-sized = subst (λ (y : Step). Sized (y .state)) (sym step) (next-sized s (lentState place html checks starts ends count) z)
 
-    pub lent-falls : isEnd (r .answer) ≡ false → unread s (iterator (r .place) html checks starts' ends' (r .count)) < unread s (iterator place html checks starts ends count)
-    lent-falls = subst (λ (y : Step). isEnd (y .answer) ≡ false → unread s (y .state) < unread s (iterator place html checks starts ends count)) (sym lent-step) (next-falls s (iterator place html checks starts ends count) g)
+    pub lent-falls : isEnd (r .answer) ≡ false → unread s (lentState (r .place) html checks starts' ends' (r .count)) < unread s (lentState place html checks starts ends count)
+    lent-falls = subst (λ (y : Step). isEnd (y .answer) ≡ false → unread s (y .state) < unread s (lentState place html checks starts ends count)) (sym step) (next-falls s (lentState place html checks starts ends count) g)
 
 -- `has_nil`: 20, then 7, then the search.
 module _ (s : List ℕ) (st : IterState) (x : NamespaceResolver) where
@@ -199,13 +181,13 @@ module _ (s : List ℕ) (st : IterState) (x : NamespaceResolver) where
     has-search r e g = rw (v, g, e)
 
 -- what 7 leaves: done, no recorded keys, and zeros
-pub left-by-7 : (s : List ℕ) (place : Place) (html checks : Bool) (starts ends starts' ends' : List ℕ) (count : ℕ) → Sized (iterator place html checks starts ends count) → stateGood s (iterator place html checks starts ends count) ≡ false → starts' ≡ replicate (length starts) 0 → ends' ≡ replicate (length ends) 0 → iterator Done html checks starts' ends' 0 ≡ nextOf s (iterator place html checks starts ends count) .state
+pub left-by-7 : (s : List ℕ) (place : Place) (html checks : Bool) (starts ends starts' ends' : List ℕ) (count : ℕ) → Sized (lentState place html checks starts ends count) → stateGood s (lentState place html checks starts ends count) ≡ false → starts' ≡ replicate (length starts) 0 → ends' ≡ replicate (length ends) 0 → lentState Done html checks starts' ends' 0 ≡ nextOf s (lentState place html checks starts ends count) .state
 unfolding leaves badReading noKeys
 left-by-7 s place html checks starts ends starts' ends' count z g a b =
-    rw (a, b, z .starts, z .ends) (ap (λ (y : Step). y .state) (next-bad s (iterator place html checks starts ends count) g))
+    rw (a, b, z .starts, z .ends) (ap (λ (y : Step). y .state) (next-bad s (lentState place html checks starts ends count) g))
 
 -- What the contract of `has_nil_in` leaves: one outcome, and one content of both tables.
-pub outcome-one : (h : HasNil) (html checks : Bool) (o p : Left.Outcome) (starts ends starts' ends' : List ℕ) → said (o .answer) (iterator (o .place) html checks starts ends (o .count)) ≡ h → said (p .answer) (iterator (p .place) html checks starts' ends' (p .count)) ≡ h → (o ≡ p) × (starts ≡ starts') × (ends ≡ ends')
+pub outcome-one : (h : HasNil) (html checks : Bool) (o p : Left.Outcome) (starts ends starts' ends' : List ℕ) → said (o .answer) (lentState (o .place) html checks starts ends (o .count)) ≡ h → said (p .answer) (lentState (p .place) html checks starts' ends' (p .count)) ≡ h → (o ≡ p) × (starts ≡ starts') × (ends ≡ ends')
 outcome-one h html checks o p starts ends starts' ends' a b =
-    let e : said (o .answer) (iterator (o .place) html checks starts ends (o .count)) ≡ said (p .answer) (iterator (p .place) html checks starts' ends' (p .count)) = a ∙ sym b in
+    let e : said (o .answer) (lentState (o .place) html checks starts ends (o .count)) ≡ said (p .answer) (lentState (p .place) html checks starts' ends' (p .count)) = a ∙ sym b in
     (ap (λ (r : HasNil). record { answer = r .answer; place = r .state .place; count = r .state .count }) e, ap (λ (r : HasNil). r .state .starts) e, ap (λ (r : HasNil). r .state .ends) e)

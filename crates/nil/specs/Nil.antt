@@ -7,7 +7,6 @@ use lib.ListN.{length}
 use Rattle.scan.specs.First.{pick}
 use Rattle.scan.specs.Bytes.{sameBytes, bytes}
 use Rattle.name.specs.Split.{localOf}
-use Rattle.attributes.specs.declared.Place.{Place}
 use Rattle.attributes.specs.declared.Answer.{Answer}
 use Rattle.attributes.specs.declared.IterState.{IterState}
 use Rattle.attributes.specs.declared.Truth.{Truth}
@@ -32,11 +31,6 @@ nilNumbers BadResolver = 20 ∷ []
 -- an answer, and the iterator that it leaves
 abbrev pub said : Nil → IterState → HasNil
 said a st = record { answer = a; state = st }
-
--- an iterator of these parts
-abbrev pub iterator : Place → Bool → Bool → (starts ends : List ℕ) → ℕ → IterState
-iterator place html checks starts ends count =
-    record { place = place; html = html; «check_duplicates» = checks; starts = starts; ends = ends; count = count }
 
 unfoldable pub isYes : Truth → Bool
 isYes Says.Yes = true

@@ -18,9 +18,9 @@ ghost use mathlib.Core.Bool.{true};
 ghost use Prim.Native.Nat.{ℕ};
 ghost use lib.ListN.{length};
 ghost use Rattle.keys.specs.Keys.{capacity};
-ghost use Rattle.attributes.specs.Next.{stateGood};
+ghost use Rattle.attributes.specs.Next.{stateGood, lentState};
 ghost use Rattle.table.specs.Table.{TEXT, RECORDS, tables};
-ghost use Rattle.nil.specs.Nil.{said, iterator, isNil, searched, hasNilOf};
+ghost use Rattle.nil.specs.Nil.{said, isNil, searched, hasNilOf};
 ghost use Rattle.nil.specs.Convert.{namespaceOf};
 
 // Whether a tag has a `nil` that is true: the crate's bool, and the refusals of what it is asked with.
@@ -129,8 +129,8 @@ fn search<'k, 't>(
     count: usize,
     level: u16,
 ) -> Outcome
-    requires { ⌜ (stateGood (now tag) (iterator place html checks (now «key_starts») (now «key_ends») keys) ≡ true) × (length (now «key_starts») ≡ capacity) × (length (now «key_ends») ≡ capacity) × (length (now text) ≡ TEXT) × (length (now starts) ≡ RECORDS) × (length (now plens) ≡ RECORDS) × (length (now vlens) ≡ RECORDS) × (length (now levels) ≡ RECORDS) ⌝ }
-    ensures { λ r. ⌜ ((limit : ℕ) → said (r .answer) (iterator (r .place) html checks (now («key_starts» .exit)) (now («key_ends» .exit)) (r .count)) ≡ searched (tables (now (text .entry)) (now (starts .entry)) (now (plens .entry)) (now (vlens .entry)) (now (levels .entry)) used count level limit) (now (tag .entry)) (iterator place html checks (now («key_starts» .entry)) (now («key_ends» .entry)) keys)) ⌝ }
+    requires { ⌜ (stateGood (now tag) (lentState place html checks (now «key_starts») (now «key_ends») keys) ≡ true) × (length (now «key_starts») ≡ capacity) × (length (now «key_ends») ≡ capacity) × (length (now text) ≡ TEXT) × (length (now starts) ≡ RECORDS) × (length (now plens) ≡ RECORDS) × (length (now vlens) ≡ RECORDS) × (length (now levels) ≡ RECORDS) ⌝ }
+    ensures { λ r. ⌜ ((limit : ℕ) → said (r .answer) (lentState (r .place) html checks (now («key_starts» .exit)) (now («key_ends» .exit)) (r .count)) ≡ searched (tables (now (text .entry)) (now (starts .entry)) (now (plens .entry)) (now (vlens .entry)) (now (levels .entry)) used count level limit) (now (tag .entry)) (lentState place html checks (now («key_starts» .entry)) (now («key_ends» .entry)) keys)) ⌝ }
 {
     let mut stand = place;
     let mut recorded = keys;
@@ -189,7 +189,7 @@ pub fn has_nil_in<'k, 't>(
     level: u16,
 ) -> Outcome
     requires { ⌜ (length (now «key_starts») ≡ capacity) × (length (now «key_ends») ≡ capacity) × (length (now text) ≡ TEXT) × (length (now starts) ≡ RECORDS) × (length (now plens) ≡ RECORDS) × (length (now vlens) ≡ RECORDS) × (length (now levels) ≡ RECORDS) ⌝ }
-    ensures { λ r. ⌜ ((limit : ℕ) → said (r .answer) (iterator (r .place) html checks (now («key_starts» .exit)) (now («key_ends» .exit)) (r .count)) ≡ hasNilOf (now (tag .entry)) (iterator place html checks (now («key_starts» .entry)) (now («key_ends» .entry)) keys) (tables (now (text .entry)) (now (starts .entry)) (now (plens .entry)) (now (vlens .entry)) (now (levels .entry)) used count level limit)) ⌝ }
+    ensures { λ r. ⌜ ((limit : ℕ) → said (r .answer) (lentState (r .place) html checks (now («key_starts» .exit)) (now («key_ends» .exit)) (r .count)) ≡ hasNilOf (now (tag .entry)) (lentState place html checks (now («key_starts» .entry)) (now («key_ends» .entry)) keys) (tables (now (text .entry)) (now (starts .entry)) (now (plens .entry)) (now (vlens .entry)) (now (levels .entry)) used count level limit)) ⌝ }
 {
     if !table::is_table(text, starts, plens, vlens, levels, used, count, level) {
         return Outcome {

@@ -12,29 +12,26 @@ use denote.Enum.Declared.{tagOf}
 use lib.ListN.{length, length-append}
 use borrow.Author.Tests.{eqb-false}
 use Rattle.scan.proofs.Laws.{picks}
+use Rattle.scan.proofs.Lists.{length-over}
 use Rattle.keys.proofs.Laws.{keys-none}
 use Rattle.attributes.specs.declared.Span.{Span}
 use Rattle.attributes.specs.declared.Place.{Place}
 use Rattle.attributes.specs.declared.Place.the-variants.{Next}
-use Rattle.attributes.specs.declared.Start.{Start}
-use Rattle.attributes.specs.declared.Start.the-variants.{From, Ended}
 use Rattle.attributes.specs.declared.Answer.{Answer}
 use Rattle.attributes.specs.declared.Answer.the-variants.{End, DoubleQ, SingleQ, Unquoted, Empty, ExpectedEq, ExpectedValue, UnquotedValue, ExpectedQuote, Duplicated, KeyTableFull, BadState}
 use Rattle.attributes.specs.Read.{recoverOf}
-use Rattle.attributes.specs.Next.{Keys, Reading, Ready, lent, readAt, stepFrom, stepOf, placeGood}
+use Rattle.attributes.specs.Next.{Keys, Reading, Ready, lent, stepOf, placeGood}
 use Rattle.attributes.specs.Run.{isEnd, consUnless, runLent, runFrom, answersFrom}
 use Rattle.attributes.specs.Parts.{keyPart, valuePart}
 use Rattle.attributes.proofs.Answer as E
-use Rattle.attributes.proofs.Whole.{recover-in, starts-in}
-use Rattle.attributes.proofs.Progress.{StartPast, step-forward, resume-past}
-use Rattle.attributes.proofs.Run.{left, lent-resumes, from-more}
+use Rattle.attributes.proofs.Whole.{recover-in}
+use Rattle.attributes.proofs.Run.{lent-resumes, from-more, left-all, todo, todo-falls}
 use Rattle.table.specs.Table.{TEXT, RECORDS}
 use Rattle.table.specs.Changes.{isDone, changed, boundOf, roomOf, appendOf}
 use Rattle.table.specs.declared.NamespaceResolver.{NamespaceResolver}
 use Rattle.table.specs.declared.Changed.{Changed}
 use Rattle.table.specs.declared.Answer as Verdict
 use Rattle.table.specs.declared.Answer.the-variants.{Done, InvalidXmlPrefixBind, InvalidXmlnsPrefixBind, InvalidPrefixForXml, InvalidPrefixForXmlns, TooManyBindings, TooDeeplyNested, BindingTableFull, TextFull, BadResolver}
-use Rattle.table.proofs.Lists.{length-over}
 use Rattle.table.proofs.Changes.{room-has}
 use Rattle.resolver.specs.Scope.{settle, declareOf}
 use Rattle.resolver.specs.declared.Judged.{Judged}
@@ -42,10 +39,6 @@ use Rattle.resolver.specs.declared.Judged.the-variants.{Keep, Bind}
 use Rattle.push.specs.Push.{attributeOf, after, takeOf, takeAll}
 
 -- The answers, one by one.
-
-left-all : (l : ℕ) (x : Start) → left l x ≤ l
-left-all l (From o) = omega arith
-left-all l Ended = omega arith
 
 answers-step : (s : List ℕ) (html checks : Bool) (keys : Keys) (place : Place) →
     let r = stepOf s html checks keys place in
@@ -106,31 +99,15 @@ module _ (s : List ℕ) (keys : Keys) (place : Place) (r : Reading) (e : r ≡ s
 
 -- What is left to read.
 
-abbrev pub todo : ℕ → Start → ℕ
-todo l (From o) = suc (l - o)
-todo l Ended = 0
-
-todo-past : (l o : ℕ) (x : Start) → StartPast l o x → todo l x < suc (l - o)
-unfolding StartPast
-todo-past l o (From w) h = omega (arith, h .0, h .1)
-todo-past l o Ended h = omega arith
-
-not-end : (a : Answer) (k v : Span) → Quoted a k v → a ≡ End → ⊥
-not-end a k v q e = ⊎-elim (λ d. let z : _≡_ {A = ℕ} 0 1 = cc in omega arith) (λ d. let z : _≡_ {A = ℕ} 0 1 = cc in omega arith) q
-
-todo-by : (s : List ℕ) (keys : Keys) (place : Place) (k v : Span) (x : Start) → recoverOf s place ≡ x → Quoted (stepFrom s false false keys place x .answer) k v → todo (length s) (recoverOf s (stepFrom s false false keys place x .place)) < todo (length s) x
-unfolding stepFrom
-todo-by s keys place k v Ended e q = absurd (not-end End k v q refl)
-todo-by s keys place k v (From o) e q =
-    let r = readAt s false false keys o in
-    todo-past (length s) o (recoverOf s (r .place)) (resume-past s o (r .place) (step-forward s false false keys o (starts-in s place o e)))
+goes-on : (a : Answer) (k v : Span) → Quoted a k v → isEnd a ≡ false
+unfolding isEnd
+goes-on a k v = ⊎-elim (λ e. rw e) (λ e. rw e)
 
 -- an attribute leaves less
 pub todo-less : (s : List ℕ) (keys : Keys) (place : Place) (r : Reading) → r ≡ stepOf s false false keys place → (k v : Span) → Quoted (r .answer) k v → todo (length s) (recoverOf s (r .place)) < todo (length s) (recoverOf s place)
-unfolding stepOf
-todo-less s keys place r e k v =
-    subst (λ (y : Reading). Quoted (y .answer) k v → todo (length s) (recoverOf s (y .place)) < todo (length s) (recoverOf s place)) (sym e)
-    (todo-by s keys place k v (recoverOf s place) refl)
+todo-less s keys place r e k v q =
+    subst (λ (y : Reading). isEnd (y .answer) ≡ false → todo (length s) (recoverOf s (y .place)) < todo (length s) (recoverOf s place)) (sym e)
+    (todo-falls s false false keys place) (goes-on (r .answer) k v q)
 
 -- a reader that is just opened, checks off
 pub start-ready : (s starts ends : List ℕ) (o : ℕ) → Ready s false (lent starts ends 0) (Next o)

@@ -1,4 +1,5 @@
 pub mod Laws
 pub mod Bytes
 pub mod Marks
+pub mod Lists
 pub mod Move

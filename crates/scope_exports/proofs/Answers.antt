@@ -2,7 +2,7 @@
 -- gives. So both calls number their answers alike.
 use Prim.Native.Nat.{ℕ, zero, suc, _+_, _≤_, _<_}
 use mathlib.Core.Path.{_≡_, refl, sym, ap, _∙_}
-use mathlib.Core.Bool.{Bool, true, false, _&&_, false≢true}
+use mathlib.Core.Bool.{true}
 use mathlib.Core.List.{List, [], _∷_, _++_}
 use mathlib.Core.Logic.{⊎-elim}
 use native.Mathlib.Nat.{eq-or-lt-of-le}
@@ -12,8 +12,9 @@ use lib.ListN.{length, drop, getD, List·getD-append}
 use lib.Seq.{getD-at}
 use borrow.Author.Tests.{eqb-true}
 use Rattle.scan.specs.First.{pick}
+use Rattle.scan.specs.Lists.{over}
 use Rattle.scan.proofs.Laws.{picks}
-use Rattle.table.specs.Lists.{over}
+use Rattle.scan.proofs.Bytes.{both}
 use Rattle.table.specs.Table.{validOf}
 use Rattle.table.specs.declared.NamespaceResolver.{NamespaceResolver}
 use Rattle.lookup.specs.Lookup.{inside, resolveOf}
@@ -49,10 +50,6 @@ written-at d f n k h =
     List·getD-append (upTo f n) (drop (0 + length (upTo f n)) d) 0 k (omega (arith, upto-length f n)) ∙ upto-at f n k h
 
 -- How many names are answered.
-
-both : (a b : Bool) → (a && b) ≡ true → (a ≡ true) × (b ≡ true)
-both true b e = (refl, e)
-both false b e = absurd (false≢true e)
 
 least-same : (n : ℕ) → leastOf n n ≡ n
 unfolding leastOf

@@ -2,7 +2,7 @@
 -- that is none, and what the call on the arrays left.
 use Prim.Native.Nat.{ℕ, _≤_, _<_}
 use mathlib.Core.Path.{_≡_, refl, sym, ap, _∙_}
-use mathlib.Core.Bool.{Bool, true, false, _&&_, not, false≢true}
+use mathlib.Core.Bool.{Bool, true, false, not}
 use mathlib.Core.List.{List, [], _∷_}
 use native.Mathlib.Omega.{arith}
 use lib.ListN.{length, getD, set}
@@ -15,6 +15,7 @@ use Rattle.table.specs.declared.NamespaceResolver.{NamespaceResolver}
 use Rattle.table.specs.declared.Changed.{Changed}
 use Rattle.table.specs.declared.Answer.{Answer}
 use Rattle.table.specs.declared.Answer.the-variants.{Done, BadResolver}
+use Rattle.table.proofs.Lists.{and-right}
 use Rattle.push.specs.Push.{DEEPEST}
 use Rattle.scope_exports.specs.Scope.{WRONG, fitsOf, resolverIn, headOf, codeOf, detailOf, Scope, scope, scopeOf, leveled, changeIn, freshIn, Asked, asked, askedOf, askIn, resolvedNumbers, listedNumbers}
 use Rattle.lookup.specs.declared.Resolved.{Resolved}
@@ -47,13 +48,13 @@ four-are (x ∷ y ∷ z ∷ []) h = absurd (omega arith)
 four-are (x ∷ y ∷ z ∷ w ∷ []) h = refl
 four-are (x ∷ y ∷ z ∷ w ∷ v ∷ t) h = absurd (omega arith)
 
+-- what is given on, two parts at once
+pub on-to : {a b c : ℕ} {k l m : List ℕ} → (a ≡ b) × (k ≡ l) → (b ≡ c) × (l ≡ m) → (a ≡ c) × (k ≡ m)
+on-to p q = (p .0 ∙ q .0, p .1 ∙ q .1)
+
 -- An answer is told by its case.
 pub told-as : (a b : Answer) → a ≡ b → (codeOf (numbersOf b) ≡ codeOf (numbersOf a)) × (detailOf 2 (numbersOf b) ≡ detailOf 2 (numbersOf a))
 told-as a b e = (ap (λ (x : Answer). codeOf (numbersOf x)) (sym e), ap (λ (x : Answer). detailOf 2 (numbersOf x)) (sym e))
-
-and-right : (a b : Bool) → (a && b) ≡ true → b ≡ true
-and-right true b e = e
-and-right false b e = absurd (false≢true e)
 
 module _ (text starts plens vlens levels head : List ℕ) (ok : Bool) (told : ok ≡ fitsOf text starts plens vlens levels head) where
   unfit : not ok ≡ true → fitsOf text starts plens vlens levels head ≡ false

@@ -7,7 +7,7 @@ use native.Mathlib.Omega.{arith}
 use lib.ListN.{length, take, set, getD}
 use lib.Seq.{getD-set-same}
 use Rattle.scan.specs.Bytes.{part}
-use Rattle.keys.proofs.Laws.{part-length}
+use Rattle.scan.proofs.Lists.{part-length, take-of-over, part-same}
 use Rattle.table.specs.Table.{RECORDS, textOf, prefixAt, valueAt}
 use Rattle.table.specs.Changes.{boundOf, keptAt, keptOf, droppedOf}
 use Rattle.table.specs.declared.NamespaceResolver.{NamespaceResolver}
@@ -15,11 +15,11 @@ use Rattle.table.proofs.Form.{text-next, text-grows, keep-within}
 use Rattle.scopes.specs.Sized.{Sized}
 use Rattle.scopes.specs.Scopes.{binding, sizeOf, upTo}
 use Rattle.scopes.specs.Bindings.{listTo, bindingAt, bindingsOf}
-use Rattle.scopes.proofs.Lists.{Agree, agree-set, agree-cut, take-of-over, take-of-cut}
+use Rattle.scopes.proofs.Lists.{Agree, agree-set, agree-cut, take-of-cut}
 use Rattle.scopes.proofs.Records.{text-two, kept-below, kept-above}
 use Rattle.scopes.proofs.Bound.{FormOf, Room}
 use Rattle.scopes.proofs.Kept.{kept-two}
-use Rattle.scopes.proofs.Parts.{part-same, prefix-back, value-back}
+use Rattle.scopes.proofs.Parts.{prefix-back, value-back}
 use Rattle.scopes.proofs.Listed.{list-same, list-length, size-append, up-list}
 
 -- What the records of two tables say alike.

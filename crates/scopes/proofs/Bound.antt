@@ -9,14 +9,15 @@ use native.Mathlib.Nat.{eq-or-lt-of-le}
 use native.Mathlib.Omega.{arith}
 use lib.ListN.{length, drop, set, getD, length-append, length-set}
 use lib.Seq.{getD-set-same, drop-set-lt}
+use Rattle.scan.proofs.Lists.{drop-over, length-over, take-of-over}
 use Rattle.table.specs.Lists.{allZero}
 use Rattle.table.specs.Table.{TEXT, RECORDS, textOf, validOf}
 use Rattle.table.specs.Changes.{boundOf}
 use Rattle.table.specs.declared.NamespaceResolver.{NamespaceResolver}
-use Rattle.table.proofs.Lists.{zeros-later, drop-over, length-over}
+use Rattle.table.proofs.Lists.{zeros-later}
 use Rattle.table.proofs.Form.{Form, form, formed, text-next, text-grows}
 use Rattle.scopes.specs.Sized.{Sized}
-use Rattle.scopes.proofs.Lists.{agree-set, take-of-over}
+use Rattle.scopes.proofs.Lists.{agree-set}
 use Rattle.scopes.proofs.Records.{text-same, before-same, record-same, before-top, text-two}
 
 -- what a resolver that 20 does not refuse has, and back

@@ -5,6 +5,7 @@ use native.Mathlib.Omega.{arith}
 use lib.ListN.{take, getD}
 use Rattle.scan.specs.Bytes.{bytes, bytesFrom, part}
 use Rattle.scan.proofs.Bytes.{same-eq}
+use Rattle.scan.proofs.Lists.{part-same}
 use Rattle.name.specs.Reserved.{xmlPrefix, xmlnsPrefix, xmlUri, xmlnsUri}
 use Rattle.table.specs.Table.{builtIn, textOf, prefixAt, valueAt}
 use Rattle.table.specs.declared.NamespaceResolver.{NamespaceResolver}
@@ -13,7 +14,6 @@ use Rattle.scopes.specs.Bindings.{bindingAt}
 use Rattle.scopes.specs.Promises.{BuiltInsStand}
 use Rattle.scopes.proofs.Records.{Said, says}
 use Rattle.scopes.proofs.Bound.{FormOf, form-of}
-use Rattle.scopes.proofs.Parts.{part-same}
 
 pub opens : (x : NamespaceResolver) → FormOf x → Said (x .plens) (x .vlens) (x .levels) 0 3 36 0 × Said (x .plens) (x .vlens) (x .levels) 1 5 29 0
 opens x f =

@@ -1,12 +1,12 @@
--- What a write at the end of the part in use, and a cut, leave of a list: the part before stays.
-use Prim.Native.Nat.{ℕ, zero, suc, _+_, _-_, _≤_, _<_}
+-- What lists that agree up to a place have in common, and what a cut leaves: the part before it stays.
+use Prim.Native.Nat.{ℕ, zero, suc, _-_, _≤_, _<_}
 use mathlib.Core.Path.{_≡_, refl, sym, ap, _∙_}
 use mathlib.Core.Bool.{true}
-use mathlib.Core.List.{List, _++_}
+use mathlib.Core.List.{List}
 use native.Mathlib.Omega.{arith}
-use lib.ListN.{length, take, drop, set, getD, replicate, length-append}
+use lib.ListN.{length, take, drop, set, getD, replicate}
 use lib.Seq.{length-take-le, take-append-le, take-take, drop-at, getD-take, ext-getD, getD-set-other}
-use Rattle.table.specs.Lists.{allZero, over, cut}
+use Rattle.table.specs.Lists.{allZero, cut}
 use Rattle.table.proofs.Lists.{cut-zeros}
 
 -- Two lists that agree on the first n places.
@@ -29,16 +29,6 @@ take-agree n l m h k a =
 
 pub agree-set : (l : List ℕ) (n a : ℕ) → Agree n (set l n a) l
 agree-set l n a j h = getD-set-other l n j a 0 (λ e. omega arith)
-
--- A write from n on.
-
-pub take-of-over : (j : ℕ) (t : List ℕ) (n : ℕ) (s : List ℕ) → j ≤ n → n ≤ length t → take j (over t n s) ≡ take j t
-unfolding over
-take-of-over j t n s h k =
-    let l = length-take-le n t k in
-    take-append-le j (take n t ++ s) (drop (n + length s) t) (omega (arith, length-append (take n t) s))
-    ∙ take-append-le j (take n t) s (omega arith)
-    ∙ take-take j n t h
 
 -- A cut at n.
 

@@ -5,11 +5,11 @@ use mathlib.Core.Bool.{Bool, true, false, _&&_}
 use mathlib.Core.List.{List, [], _∷_}
 use native.Mathlib.Omega.{arith}
 use lib.ListN.{length, take, drop, getD, length-drop, List·getD-eq-default}
-use lib.Seq.{take-all}
 use lib.Dec.{eqb, ltb}
 use borrow.Author.Tests.{lt-ltb, le-ltb, ltb-false}
 use Rattle.scan.specs.First.{pick}
 use Rattle.scan.specs.Bytes.{part}
+use Rattle.scan.proofs.Lists.{to-end}
 use Rattle.table.specs.Table.{freshOf}
 use Rattle.table.specs.declared.NamespaceResolver.{NamespaceResolver}
 use Rattle.lookup.specs.declared.Listed.{Listed}
@@ -24,16 +24,6 @@ use Rattle.scopes_replay.specs.declared.Turn.{Turn}
 use Rattle.scopes_replay.specs.declared.End.the-variants as Stop
 use Rattle.scopes_replay.specs.Calls.{callOf, shownIn, changedBy, resetTo, lookedUp, listedAs, madeOf}
 use Rattle.scopes_replay.specs.Replay.{twoAt, sameSaid, sameLeft, lengthsOf, heldTo, turnOf, turnAt, recordOf, sizeOf, namesOf, bindingsOf, stopped, follow, replayFrom, replayOf}
-
-pub and-on : {a b r : Bool} → a ≡ true → r ≡ b → r ≡ (a && b)
-and-on h e = rw h e
-
-pub and-off : {a : Bool} (b : Bool) → a ≡ false → false ≡ (a && b)
-and-off b h = rw h
-
--- a part up to the end
-pub to-end : (l : List ℕ) (at : ℕ) → take (length l - at) (drop at l) ≡ drop at l
-to-end l at = take-all (length l - at) (drop at l) (omega (arith, length-drop at l))
 
 -- what is at least k and not k, and what is none of the first ten calls
 pub next : (k n : ℕ) → k ≤ n → (n ≡ k → ⊥) → k + 1 ≤ n
@@ -153,7 +143,7 @@ module _ (s : List ℕ) (x : NamespaceResolver) (at calls names bindings : ℕ) 
 
   -- what the code read is the record at the place
   pub read-at : {r : Turn} → r ≡ recordOf x (take (length s - at) (drop at s)) → r ≡ recordOf x (drop at s)
-  read-at e = e ∙ ap (recordOf x) (to-end s at)
+  read-at e = e ∙ ap (recordOf x) (to-end at s)
 
   module _ {r : Turn} (e : r ≡ recordOf x (take (length s - at) (drop at s))) (a : at < length s) where
     pub moves : {size n m : ℕ} → r .step ≡ At.Agrees size n m → Passed size n m (length s - at)

@@ -18,7 +18,8 @@ ghost use mathlib.Core.Bool.{true};
 ghost use Prim.Native.Nat.{ℕ, _+_, _-_, _≤_, _<_};
 ghost use lib.ListN.{length, take, drop, getD};
 ghost use Rattle.scan.specs.Bytes.{sameBytes};
-ghost use Rattle.table.specs.Lists.{allZero, over, cut};
+ghost use Rattle.scan.specs.Lists.{over};
+ghost use Rattle.table.specs.Lists.{allZero, cut};
 ghost use Rattle.table.specs.Table.{TEXT, RECORDS, builtIn, tables, isChain, isRising, isRecord, opensBuiltIn, isClear, isTable, validOf, freshOf};
 ghost use Rattle.table.specs.Changes.{numbersOf, changed, roomOf, appendOf, keptAt, endOf, levelOf};
 

@@ -5,20 +5,16 @@ use mathlib.Core.Bool.{Bool, true, false}
 use mathlib.Core.List.{List}
 use native.Mathlib.Omega.{arith}
 use lib.ListN.{length, take, drop, getD, length-drop}
-use lib.Seq.{take-all}
 use lib.Dec.{eqb, ltb}
 use borrow.Author.Tests.{lt-ltb, le-ltb, ltb-false}
 use Rattle.scan.specs.First.{pick}
 use Rattle.scan.specs.Bytes.{part}
+use Rattle.scan.proofs.Lists.{to-end}
 use Rattle.attributes.specs.Next.{opened}
 use Rattle.tags_replay.specs.declared.Step.{Step}
 use Rattle.tags_replay.specs.declared.Step.the-variants.{Agrees, Differs, Cut}
 use Rattle.tags_replay.specs.declared.End.the-variants.{All, Differs as DiffersAt, Cut as CutAt}
 use Rattle.tags_replay.specs.Replay.{twoAt, agreesWith, tailAgrees, tailOf, recordOf, sizeOf, stopped, follow, replayFrom, replayOf}
-
--- a part up to the end
-pub to-end : (l : List ℕ) (at : ℕ) → take (length l - at) (drop at l) ≡ drop at l
-to-end l at = take-all (length l - at) (drop at l) (omega (arith, length-drop at l))
 
 -- the record at the front
 module _ (rest : List ℕ) where
@@ -33,7 +29,7 @@ module _ (rest : List ℕ) where
 
     module _ (b : n ≤ length rest - 8) {tail : List ℕ} (et : tail ≡ take (length rest - (2 + n)) (drop (2 + n) rest)) {k : ℕ} (ek : k ≡ twoAt tail 4) where
       is-tail : tail ≡ drop (2 + n) rest
-      is-tail = et ∙ to-end rest (2 + n)
+      is-tail = et ∙ to-end (2 + n) rest
 
       opens : recordOf rest ≡ tailOf rest n tail
       unfolding recordOf
@@ -46,7 +42,7 @@ module _ (rest : List ℕ) where
       pub whole : {t html checks : Bool} {o : ℕ} {recorded : List ℕ} → k ≤ (length tail - 6) / 10 → html ≡ eqb (getD tail 0 0) 1 → checks ≡ eqb (getD tail 1 0) 1 → o ≡ twoAt tail 2 → recorded ≡ take (length tail - 6) (drop 6 tail) → t ≡ agreesWith (take (2 + n - 2) (drop 2 rest)) (opened o html checks) k recorded → pick t (Agrees (8 + n + 10 * k)) Differs ≡ recordOf rest
       unfolding tailOf tailAgrees part
       whole {t} {html} {checks} {o} {recorded} h eh ec eo er et' =
-          let er' = er ∙ to-end tail 6 in
+          let er' = er ∙ to-end 6 tail in
           let g : t ≡ agreesWith (take (2 + n - 2) (drop 2 rest)) (opened (twoAt tail 2) (eqb (getD tail 0 0) 1) (eqb (getD tail 1 0) 1)) (twoAt tail 4) (drop 6 tail) = et' ∙ rw (eh, ec, eo, er', ek) in
           sym (opens ∙ rw (← g, ← ek, le-ltb ((length tail - 6) / 10) k h))
 
@@ -81,7 +77,7 @@ module _ (s : List ℕ) (at tags : ℕ) where
 
   -- what the code read is the record at the place
   pub read-at : {r q : Step} → r ≡ recordOf (take (length s - at) (drop at s)) → r ≡ q → recordOf (drop at s) ≡ q
-  read-at e h = sym (ap recordOf (to-end s at)) ∙ sym e ∙ h
+  read-at e h = sym (ap recordOf (to-end at s)) ∙ sym e ∙ h
 
   pub moves : {size : ℕ} → at < length s → recordOf (drop at s) ≡ Agrees size → (8 ≤ size) × (at + size ≤ length s)
   moves a h =

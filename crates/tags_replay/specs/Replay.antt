@@ -11,9 +11,9 @@ use Rattle.scan.specs.Bytes.{part, sameBytes}
 use Rattle.keys.specs.Keys.{capacity}
 use Rattle.attributes.specs.declared.IterState.{IterState}
 use Rattle.attributes.specs.declared.Place.the-variants.{Next}
-use Rattle.attributes.specs.Next.{opened}
+use Rattle.attributes.specs.Next.{opened, lentState}
 use Rattle.attributes.specs.Run.{answersOf}
-use Rattle.batch.specs.Batch.{fivesOf, lentState}
+use Rattle.batch.specs.Batch.{fivesOf}
 use Rattle.tags_replay.specs.declared.Step.{Step}
 use Rattle.tags_replay.specs.declared.Step.the-variants.{Agrees, Differs, Cut}
 use Rattle.tags_replay.specs.declared.End.{End}

@@ -18,12 +18,7 @@ use Rattle.attributes.specs.Next.{Keys, readAt, keysOf, stateGood, badReading, 
 use Rattle.attributes.specs.Run.{isEnd, consUnless, runOf, answersOf, runFrom, answersFrom}
 use Rattle.attributes.proofs.Whole.{recover-in, next-bad}
 use Rattle.attributes.proofs.Good.{Sized, next-stays-good, next-sized}
-use Rattle.attributes.proofs.Run.{left, from-more, run-lent, lent-resumes, answers-resume}
-
-cons-most : (t : Bool) (a : Answer) (rest : List Answer) (n : ℕ) → length rest ≤ n → length (consUnless t a rest) ≤ suc n
-unfolding consUnless
-cons-most true a rest n h = omega arith
-cons-most false a rest n h = omega arith
+use Rattle.attributes.proofs.Run.{cons-most, left, left-all, from-more, run-lent, lent-resumes, answers-resume}
 
 -- no more answers than the budget
 from-most : (n : ℕ) (s : List ℕ) (html checks : Bool) (keys : Keys) (x : Start) → length (runFrom n s html checks keys x) ≤ n
@@ -32,11 +27,7 @@ from-most zero s html checks keys x = omega arith
 from-most (suc n) s html checks keys Ended = omega arith
 from-most (suc n) s html checks keys (From o) =
     let r = readAt s html checks keys o in
-    cons-most (isEnd (r .answer)) (r .answer) _ n (from-most n s html checks (r .keys) (recoverOf s (r .place)))
-
-left-within : (l : ℕ) (x : Start) → left l x ≤ l
-left-within l (From o) = omega arith
-left-within l Ended = omega arith
+    cons-most n (isEnd (r .answer)) (r .answer) _ (from-most n s html checks (r .keys) (recoverOf s (r .place)))
 
 -- From a state that 7 does not answer: at most one answer for each byte at or after the place where reading resumes.
 pub run-ends : (s : List ℕ) (st : IterState) → Sized st → stateGood s st ≡ true → length (answersOf s st) ≤ left (length s) (recoverOf s (st .place))
@@ -44,7 +35,7 @@ unfolding answersFrom
 run-ends s st sized good =
     let x = recoverOf s (st .place) in
     let n = left (length s) x in
-    let e : n + (length s - n) ≡ length s = omega (arith, left-within (length s) x) in
+    let e : n + (length s - n) ≡ length s = omega (arith, left-all (length s) x) in
     let whole : answersOf s st ≡ runFrom n s (st .html) (st .«check_duplicates») (keysOf st) x =
     answers-resume s st sized good
     ∙ subst (λ (k : ℕ). runFrom k s (st .html) (st .«check_duplicates») (keysOf st) x ≡ runFrom n s (st .html) (st .«check_duplicates») (keysOf st) x) e

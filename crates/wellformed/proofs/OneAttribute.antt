@@ -7,7 +7,7 @@ use native.Mathlib.Omega.{arith}
 use lib.ListN.{length, getD, drop, length-append, List·getD-append}
 use lib.Dec.{eqb}
 use Rattle.scan.specs.Bytes.{isSpace, notSpace, endsKey, isByte, part}
-use Rattle.scan.proofs.Bytes.{both}
+use Rattle.scan.proofs.Bytes.{both, eq-content}
 use Rattle.attributes.specs.declared.Span.{Span}
 use Rattle.attributes.specs.declared.Place.the-variants.{Next}
 use Rattle.attributes.specs.declared.KeyRead.the-variants.{Valued}
@@ -16,7 +16,7 @@ use Rattle.attributes.proofs.Paths.{key-valued, value-quoted, quoted-closed}
 use Rattle.wellformed.specs.Grammar.{each, nameByte, Quote, double, single, quoteByte, Lacks, Attribute, AttributeBy, attributeThen}
 use Rattle.wellformed.specs.Expected.{nameStart, nameEnd, valueStart, valueEnd, next, inQuotes}
 use Rattle.wellformed.proofs.Cursor.{each-fails, some-each, some-length, some-first, move, part-is, rest-at, rest-inside, stops}
-use Rattle.wellformed.proofs.Tests.{space-fails, space-ends, name-content, name-goes-on, eq-content, eq-ends, quote-content, quote-is, quote-closes, no-quote}
+use Rattle.wellformed.proofs.Tests.{space-fails, space-ends, name-content, name-goes-on, eq-ends, quote-content, quote-is, quote-closes, no-quote}
 
 pub closed-is : (q : Quote) (key value : Span) → closedOf (quoteByte q) key value ≡ found (inQuotes q key value) (Next (value .end + 1))
 unfolding closedOf quoted quoteByte inQuotes

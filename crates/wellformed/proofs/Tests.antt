@@ -6,13 +6,9 @@ use mathlib.Core.List.{List, [], _∷_}
 use lib.Dec.{eqb}
 use borrow.Author.Tests.{not-true, eqb-true}
 use Rattle.scan.specs.Bytes.{isSpace, notSpace, endsKey, isByte, bytesFrom, bytes}
-use Rattle.scan.proofs.Bytes.{both}
+use Rattle.scan.proofs.Bytes.{both, both-false}
 use Rattle.attributes.specs.Read.{isQuote}
 use Rattle.wellformed.specs.Grammar.{each, isIn, oneOf, nameByte, digit, hexDigit, Quote, double, single, quoteByte, valueByte}
-
-or-false : (a b : Bool) → (a || b) ≡ false → (a ≡ false) × (b ≡ false)
-or-false true b h = absurd (true≢false h)
-or-false false b h = (refl, h)
 
 pub apart : (p : ℕ → Bool) (b y : ℕ) → p b ≡ true → p y ≡ false → eqb b y ≡ false
 apart p b y h g = by (eqb b y) refl where
@@ -53,7 +49,7 @@ space-no-name b h = rw h
 
 pub name-no-space : (b : ℕ) → nameByte b ≡ true → isSpace b ≡ false
 unfolding nameByte
-name-no-space b h = or-false (isSpace b) _ (not-true _ h) .0
+name-no-space b h = both-false (isSpace b) _ (not-true _ h) .0
 
 pub eq-no-name : nameByte 61 ≡ false
 unfolding nameByte isSpace oneOf isIn bytes bytesFrom
@@ -98,10 +94,6 @@ unfolding hexDigit oneOf
 hex-name b h = in-passes nameByte (bytes "0123456789abcdefABCDEF") b hex-are h
 
 -- `=`, and quotes.
-
-pub eq-content : notSpace 61 ≡ true
-unfolding notSpace isSpace
-eq-content = refl
 
 pub eq-ends : endsKey 61 ≡ true
 unfolding endsKey

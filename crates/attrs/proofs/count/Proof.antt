@@ -1,7 +1,7 @@
 -- `attrs::count` meets its contract: tables of zeros are those of a fresh iterator.
 use mathlib.Core.Path.{refl}
 use Rattle.attributes.specs.Next.{opened, noKeys}
-use Rattle.batch.specs.Batch.{lentState, roomOf}
+use Rattle.batch.specs.Batch.{roomOf}
 use Rattle.attrs.specs.Count.{openedOn, tagAnswers}
 use borrow.Author.Needs.{needs}
 use Rattle.attrs.proofs.count.Statement.{statement}
@@ -21,7 +21,7 @@ unfolding roomOf
 count-on-requires c κs = record { starts = refl; ends = refl; room = refl }
 
 returns : tie.Need-returns
-unfolding tagAnswers openedOn lentState opened noKeys
+unfolding tagAnswers openedOn opened noKeys
 returns c = c .before .before .before .count-on .ensures
 
 pub count-spec : {M : Type 1} → statement M

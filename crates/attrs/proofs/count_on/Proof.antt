@@ -7,7 +7,8 @@ use native.Mathlib.Omega.{arith}
 use lib.ListN.{length, length-append}
 use borrow.Author.Needs.{needs}
 use Rattle.attributes.specs.Run.{runOf}
-use Rattle.batch.specs.Batch.{lentState, roomOf}
+use Rattle.attributes.specs.Next.{lentState}
+use Rattle.batch.specs.Batch.{roomOf}
 use Rattle.lines.proofs.Batches.{Stand, stand-first, stand-next, stand-last, stand-bound, never-wrong, read-count, read-left}
 use Rattle.attrs.specs.Count.{openedOn}
 use Rattle.attrs.proofs.Turn.{room, full, total-fits}
@@ -25,7 +26,7 @@ abbrev μ-loop : tie.MeasureT-loop
 μ-loop tag starts₀ ends₀ numbers₀ place₀ recorded₀ total₀ starts ends numbers place recorded total = length tag + 1 - total
 
 loop-holds : tie.Need-loop-holds Inv-loop μ-loop
-unfolding openedOn lentState
+unfolding openedOn
 loop-holds c = (refl, stand-first (c .before .before .before .before .args .tag .now) (openedOn (c .before .before .before .before .args .starts .now) (c .before .before .before .before .args .ends .now)) (record { starts = c .before .before .before .before .pre .starts; ends = c .before .before .before .before .pre .ends }), refl, refl)
 
 read-batch-requires : tie.Need-read-batch-requires Inv-loop μ-loop

@@ -2,30 +2,27 @@
 use mathlib.Core.Path.{_≡_, sym, ap, _∙_}
 use native.Mathlib.Omega.{arith}
 use borrow.Author.Tests.{not-true, not-false}
-use Rattle.attributes.specs.Next.{lent, stateGood}
+use Rattle.scan.specs.Lists.{over}
+use Rattle.attributes.specs.Next.{lent, stateGood, lentState}
 use Rattle.attributes.proofs.Whole.{sized-good}
-use Rattle.batch.specs.Batch.{over, lentState}
 use Rattle.batch.proofs.Ends.{unfit-starts, unfit-ends, said-wrong, said-none, said-bad, said-fit}
 use borrow.Author.Needs.{needs}
 use Rattle.batch.proofs.read_batch.Statement.{statement}
 use Rattle.batch.proofs.read_batch.Tie as tie
 
 returns : tie.Need-returns
-unfolding lentState
 returns c =
     let a = c .before .before .before .before .before .args in
     let st = lentState (a .place) (a .html) (a .checks) (a .starts .now) (a .ends .now) (a .count) in
     said-wrong (a .tag .now) st (a .out .now) (unfit-starts (a .tag .now) st (a .out .now) (c .if1 .taken))
 
 returns-2 : tie.Need-returns-2
-unfolding lentState
 returns-2 c =
     let a = c .before .before .before .before .before .before .args in
     let st = lentState (a .place) (a .html) (a .checks) (a .starts .now) (a .ends .now) (a .count) in
     said-wrong (a .tag .now) st (a .out .now) (unfit-ends (a .tag .now) st (a .out .now) (c .before .if1 .left) (c .if2 .taken))
 
 returns-3 : tie.Need-returns-3
-unfolding lentState
 returns-3 c =
     let a = c .before .before .before .before .before .before .before .args in
     let st = lentState (a .place) (a .html) (a .checks) (a .starts .now) (a .ends .now) (a .count) in
@@ -56,7 +53,7 @@ same-length-3 : tie.Need-same-length-3
 same-length-3 c = search needs
 
 returns-4 : tie.Need-returns-4
-unfolding lentState stateGood
+unfolding stateGood
 returns-4 c =
     let a = c .before .before .before .before .before .before .before .before .before .before .before .before .before .before .before .before .before .before .before .before .before .before .before .before .args in
     let st = lentState (a .place) (a .html) (a .checks) (a .starts .now) (a .ends .now) (a .count) in
@@ -64,7 +61,7 @@ returns-4 c =
     (c .before .before .before .before .before .before .before .before .before .before .before .clear .ensures) (c .before .before .before .before .before .before .before .clear2 .ensures) (c .before .before .put .ensures ∙ ap (over (a .out .now) 0) (c .before .before .before .numbers .ensures))
 
 read-good-requires : tie.Need-read-good-requires
-unfolding lentState stateGood
+unfolding stateGood
 read-good-requires c κs =
     let a = c .before .before .before .before .before .before .before .before .before .before .before .before .before .before .args in
     let st = lentState (a .place) (a .html) (a .checks) (a .starts .now) (a .ends .now) (a .count) in
@@ -80,7 +77,6 @@ same-length-6 : tie.Need-same-length-6
 same-length-6 c = search needs
 
 returns-5 : tie.Need-returns-5
-unfolding lentState
 returns-5 c =
     let a = c .before .before .before .before .before .before .before .before .before .before .before .before .before .before .before .before .before .before .before .before .before .args in
     let st = lentState (a .place) (a .html) (a .checks) (a .starts .now) (a .ends .now) (a .count) in

@@ -1,15 +1,16 @@
 -- `batch::read_good` meets its contract: the whole batch is what is written so far and the batch of what is left. The measure
 -- is the room that is left.
+use Rattle.scan.proofs.Lists.{over-length}
 use Rattle.attributes.specs.declared.IterState.{IterState}
 use Prim.Native.Nat.{_+_, _-_, _*_, _≤_, _<_}
 use mathlib.Core.Path.{_≡_, refl, sym, ap, _∙_}
 use native.Mathlib.Omega.{arith}
 use borrow.Author.Needs.{needs}
 use lib.ListN.{length}
-use Rattle.attributes.specs.Next.{keysOf}
-use Rattle.batch.specs.Batch.{listed, lentState}
-use Rattle.batch.proofs.Over.{over-length}
-use Rattle.batch.proofs.Turns.{Turn, turn-first, room-fits, ripe-ready, ripe-after, lent-step, code-end, code-other, batch-left, ends-left, ends-many, ends-text, turn-next, full-left, full-many, full-text}
+use Rattle.attributes.specs.Next.{keysOf, lentState}
+use Rattle.attributes.proofs.Whole.{lent-step}
+use Rattle.batch.specs.Batch.{listed}
+use Rattle.batch.proofs.Turns.{Turn, turn-first, room-fits, ripe-ready, ripe-after, code-end, code-other, batch-left, ends-left, ends-many, ends-text, turn-next, full-left, full-many, full-text}
 use Rattle.batch.proofs.read_good.Statement.{statement}
 use Rattle.batch.proofs.read_good.Tie as tie
 
@@ -26,14 +27,13 @@ sub-loop : tie.Need-sub-loop Inv-loop μ-loop
 sub-loop c = omega (arith, room-fits _ _ (c .loop .inv .1 .fits), c .loop .inv .1 .size)
 
 step-lent-requires : tie.Need-step-lent-requires Inv-loop μ-loop
-unfolding lentState keysOf
+unfolding keysOf
 step-lent-requires c κs = ripe-ready (c .before .before .before .before .before .before .before .before .args .tag .now) (lentState (c .before .before .before .loop .stand) (c .before .before .before .before .before .before .before .before .args .html) (c .before .before .before .before .before .before .before .before .args .checks) (c .before .before .before .loop .starts) (c .before .before .before .loop .ends) (c .before .before .before .loop .recorded)) (c .before .before .before .loop .inv .1 .ripe)
 
 numbers-requires : tie.Need-numbers-requires Inv-loop μ-loop
 numbers-requires c κs = search needs
 
 same-length : tie.Need-same-length Inv-loop μ-loop
-unfolding lentState
 same-length c =
     let a = c .before .before .before .before .before .before .before .before .before .before .before .before .before .before .before .before .args in
     let l = c .before .before .before .before .before .before .before .before .before .before .before .loop in
@@ -41,11 +41,10 @@ same-length c =
     let first = lentState (a .place) (a .html) (a .checks) (a .starts .now) (a .ends .now) (a .count) in
     let st = lentState (l .stand) (a .html) (a .checks) (l .starts) (l .ends) (l .recorded) in
     let after = lentState (r .result .place) (a .html) (a .checks) (r .last .1 .0) (r .last .1 .1 .0) (r .result .count) in
-    let step = lent-step (a .tag .now) (l .stand) (a .html) (a .checks) (l .starts) (l .ends) (l .recorded) (r .result) (r .last .1 .0) (r .last .1 .1 .0) (l .inv .1 .ripe) (r .ensures) in
+    let step = lent-step (a .tag .now) (l .stand) (a .html) (a .checks) (l .starts) (l .ends) (l .recorded) (l .inv .1 .ripe .good) (r .result) (r .last .1 .0) (r .last .1 .1 .0) (r .ensures) in
     ripe-after (a .tag .now) st (r .result .answer) after step (l .inv .1 .ripe) .starts ∙ sym (c .before .before .before .before .before .before .before .before .before .before .before .before .before .before .before .before .pre .starts)
 
 same-length-2 : tie.Need-same-length-2 Inv-loop μ-loop
-unfolding lentState
 same-length-2 c =
     let a = c .before .before .before .before .before .before .before .before .before .before .before .before .before .before .before .before .args in
     let l = c .before .before .before .before .before .before .before .before .before .before .before .loop in
@@ -53,14 +52,13 @@ same-length-2 c =
     let first = lentState (a .place) (a .html) (a .checks) (a .starts .now) (a .ends .now) (a .count) in
     let st = lentState (l .stand) (a .html) (a .checks) (l .starts) (l .ends) (l .recorded) in
     let after = lentState (r .result .place) (a .html) (a .checks) (r .last .1 .0) (r .last .1 .1 .0) (r .result .count) in
-    let step = lent-step (a .tag .now) (l .stand) (a .html) (a .checks) (l .starts) (l .ends) (l .recorded) (r .result) (r .last .1 .0) (r .last .1 .1 .0) (l .inv .1 .ripe) (r .ensures) in
+    let step = lent-step (a .tag .now) (l .stand) (a .html) (a .checks) (l .starts) (l .ends) (l .recorded) (l .inv .1 .ripe .good) (r .result) (r .last .1 .0) (r .last .1 .1 .0) (r .ensures) in
     ripe-after (a .tag .now) st (r .result .answer) after step (l .inv .1 .ripe) .ends ∙ sym (c .before .before .before .before .before .before .before .before .before .before .before .before .before .before .before .before .pre .ends)
 
 same-length-3 : tie.Need-same-length-3 Inv-loop μ-loop
 same-length-3 c = c .before .before .before .before .before .before .before .before .before .before .before .loop .inv .1 .size
 
 returns : tie.Need-returns Inv-loop μ-loop
-unfolding lentState
 returns c =
     let a = c .before .before .before .before .before .before .before .before .before .before .before .before .before .before .before .before .args in
     let l = c .before .before .before .before .before .before .before .before .before .before .before .loop in
@@ -68,7 +66,7 @@ returns c =
     let first = lentState (a .place) (a .html) (a .checks) (a .starts .now) (a .ends .now) (a .count) in
     let st = lentState (l .stand) (a .html) (a .checks) (l .starts) (l .ends) (l .recorded) in
     let after = lentState (r .result .place) (a .html) (a .checks) (r .last .1 .0) (r .last .1 .1 .0) (r .result .count) in
-    let step = lent-step (a .tag .now) (l .stand) (a .html) (a .checks) (l .starts) (l .ends) (l .recorded) (r .result) (r .last .1 .0) (r .last .1 .1 .0) (l .inv .1 .ripe) (r .ensures) in
+    let step = lent-step (a .tag .now) (l .stand) (a .html) (a .checks) (l .starts) (l .ends) (l .recorded) (l .inv .1 .ripe .good) (r .result) (r .last .1 .0) (r .last .1 .1 .0) (r .ensures) in
     let room : 5 * l .n + 5 ≤ length (l .out) = omega (arith, l .inv .0) in
     let end = code-end (r .result .answer) (c .before .before .numbers .result) (c .before .before .numbers .ensures) (c .if1 .taken) in
     let left = ends-left (a .tag .now) first (a .out .now) (l .n) st (l .out) (l .inv .1) room (r .result .answer) after step end in
@@ -89,7 +87,6 @@ loop-less : tie.Need-loop-less Inv-loop μ-loop
 loop-less c = omega (arith, ap length (c .before .before .put .ensures), over-length (c .before .before .before .before .before .before .before .before .before .before .before .before .before .before .before .loop .out) (c .before .before .before .before .before .before .before .before .before .before .before .before .before .before .before .loop .at) (listed (c .before .before .before .before .before .before .numbers .result)) (omega arith))
 
 loop-again : tie.Need-loop-again Inv-loop μ-loop
-unfolding lentState
 loop-again c =
     let a = c .before .before .before .before .before .before .before .before .before .before .before .before .before .before .before .before .before .before .before .before .args in
     let l = c .before .before .before .before .before .before .before .before .before .before .before .before .before .before .before .loop in
@@ -97,25 +94,22 @@ loop-again c =
     let first = lentState (a .place) (a .html) (a .checks) (a .starts .now) (a .ends .now) (a .count) in
     let st = lentState (l .stand) (a .html) (a .checks) (l .starts) (l .ends) (l .recorded) in
     let after = lentState (r .result .place) (a .html) (a .checks) (r .last .1 .0) (r .last .1 .1 .0) (r .result .count) in
-    let step = lent-step (a .tag .now) (l .stand) (a .html) (a .checks) (l .starts) (l .ends) (l .recorded) (r .result) (r .last .1 .0) (r .last .1 .1 .0) (l .inv .1 .ripe) (r .ensures) in
+    let step = lent-step (a .tag .now) (l .stand) (a .html) (a .checks) (l .starts) (l .ends) (l .recorded) (l .inv .1 .ripe .good) (r .result) (r .last .1 .0) (r .last .1 .1 .0) (r .ensures) in
     let room : 5 * l .n + 5 ≤ length (l .out) = omega (arith, l .inv .0) in
     let other = code-other (r .result .answer) (c .before .before .before .before .before .before .numbers .result) (c .before .before .before .before .before .before .numbers .ensures) (c .before .before .before .before .if1 .left) in
     let next = turn-next (a .tag .now) first (a .out .now) (l .n) st (l .out) (l .inv .1) room (r .result .answer) after step other in
     (omega (arith, l .inv .0), rw (c .before .before .put .ensures, c .before .before .before .before .before .before .numbers .ensures, l .inv .0) next)
 
 same-length-4 : tie.Need-same-length-4 Inv-loop μ-loop
-unfolding lentState
 same-length-4 c = c .before .loop .inv .1 .ripe .starts ∙ sym (c .before .before .before .before .before .before .pre .starts)
 
 same-length-5 : tie.Need-same-length-5 Inv-loop μ-loop
-unfolding lentState
 same-length-5 c = c .before .loop .inv .1 .ripe .ends ∙ sym (c .before .before .before .before .before .before .pre .ends)
 
 same-length-6 : tie.Need-same-length-6 Inv-loop μ-loop
 same-length-6 c = c .before .loop .inv .1 .size
 
 returns-2 : tie.Need-returns-2 Inv-loop μ-loop
-unfolding lentState
 returns-2 c =
     let a = c .before .before .before .before .before .before .args in
     let l = c .before .loop in

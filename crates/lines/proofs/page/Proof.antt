@@ -5,7 +5,9 @@ use mathlib.Core.List.{List}
 use native.Mathlib.Omega.{arith}
 use lib.ListN.{length, take}
 use lib.Seq.{length-take-le}
-use Rattle.batch.specs.Batch.{over, lentState, readOf}
+use Rattle.scan.specs.Lists.{over}
+use Rattle.attributes.specs.Next.{lentState}
+use Rattle.batch.specs.Batch.{readOf}
 use Rattle.lines.specs.Lines.{linesIn}
 use Rattle.lines.specs.Page.{answersIn, pageOf}
 use Rattle.lines.proofs.Batches.{read-many, read-fits, written-length, written-front}

@@ -5,7 +5,7 @@ use native.Mathlib.Numerals.{add-one}
 use native.Mathlib.Omega.{arith}
 use lib.ListN.{length}
 use lib.Seq.{paste, paste-zero, paste-suc, length-paste}
-use Rattle.lines.proofs.Parts.{paste-over}
+use Rattle.scan.proofs.Lists.{paste-all}
 use Rattle.lines.proofs.put.Statement.{statement}
 use Rattle.lines.proofs.put.Tie as tie
 
@@ -45,7 +45,7 @@ same-length c = rw (c .before .loop .inv .1) (length-paste (c .before .before .a
 returns : tie.Need-returns Inv-loop μ-loop
 returns c =
     let e : c .before .loop .i ≡ length (c .before .before .args .text .now) = omega arith in
-    (omega arith, c .before .loop .inv .1 ∙ rw e (paste-over (c .before .before .args .out .now) (c .before .before .args .at) (c .before .before .args .text .now)))
+    (omega arith, c .before .loop .inv .1 ∙ paste-all (c .before .before .args .out .now) (c .before .before .args .at) (c .before .before .args .text .now) _ e)
 
 pub put-spec : {M : Type 1} → statement M
 put-spec =

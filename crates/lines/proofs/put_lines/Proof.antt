@@ -4,7 +4,7 @@ use Prim.Native.Nat.{ℕ, _+_, _*_, _-_, _/_, _≤_}
 use mathlib.Core.Path.{_≡_, refl, sym, _∙_}
 use native.Mathlib.Omega.{arith}
 use lib.ListN.{length, take, drop}
-use Rattle.batch.proofs.Over.{over-none}
+use Rattle.scan.proofs.Lists.{over-none}
 use Rattle.lines.specs.Lines.{ownOf, lineOf, fiveLines}
 use Rattle.lines.proofs.Parts.{Part, part-first, part-next, part-last}
 use Rattle.lines.proofs.Text.{line-length, five-long, lines-next, lines-none, lines-room, lines-short}

@@ -4,7 +4,7 @@ use mathlib.Core.Path.{ap, _∙_}
 use mathlib.Core.List.{List}
 use native.Mathlib.Omega.{arith}
 use lib.ListN.{length}
-use Rattle.batch.specs.Batch.{over}
+use Rattle.scan.specs.Lists.{over}
 use Rattle.lines.proofs.Text.{decimal-length, digits-are}
 use borrow.Author.Needs.{needs}
 use Rattle.lines.proofs.put_number.Statement.{statement}

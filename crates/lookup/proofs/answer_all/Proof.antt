@@ -5,7 +5,7 @@ use mathlib.Core.Path.{_≡_, ap, _∙_}
 use borrow.Author.Needs.{needs}
 use native.Mathlib.Omega.{arith}
 use lib.ListN.{length}
-use Rattle.table.specs.Lists.{over}
+use Rattle.scan.specs.Lists.{over}
 use Rattle.lookup.specs.Many.{kindOf, beginOf, endOf, upTo, nthOf, written}
 use Rattle.lookup.proofs.Written.{write-none, write-next, write-length}
 use Rattle.lookup.proofs.answer_all.Statement.{statement}

@@ -3,7 +3,7 @@
 use mathlib.Core.Path.{sym, _∙_}
 use native.Mathlib.Omega.{arith}
 use borrow.Author.Needs.{needs}
-use Rattle.name.proofs.Split.{to-end}
+use Rattle.scan.proofs.Lists.{to-end}
 use Rattle.name.proofs.Declared.{named-long, named-part, unnamed-part, default-unnamed, default-tests, named-tests, nothing-tests}
 use Rattle.name.proofs.declared_prefix.Statement.{statement}
 use Rattle.name.proofs.declared_prefix.Tie as tie

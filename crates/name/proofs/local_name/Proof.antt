@@ -1,7 +1,8 @@
 -- `name::local_name` meets its contract: the code goes by where the first colon is.
 use mathlib.Core.Path.{_∙_}
 use borrow.Author.Needs.{needs}
-use Rattle.name.proofs.Split.{to-end, local-at, local-none}
+use Rattle.scan.proofs.Lists.{to-end}
+use Rattle.name.proofs.Split.{local-at, local-none}
 use Rattle.name.proofs.local_name.Statement.{statement}
 use Rattle.name.proofs.local_name.Tie as tie
 

@@ -1,9 +1,10 @@
 -- `names_replay::agrees` meets its contract: each test decides, or leaves it to the next.
 use mathlib.Core.Path.{ap, _∙_}
 use borrow.Author.Needs.{needs}
+use Rattle.scan.proofs.Bytes.{and-on, and-off}
 use Rattle.name.specs.Declares.{declaresNumber}
 use Rattle.names_replay.specs.Replay.{agreesWith}
-use Rattle.names_replay.proofs.Laws.{on, off, and-on, and-off}
+use Rattle.names_replay.proofs.Laws.{on, off}
 use Rattle.names_replay.proofs.agrees.Statement.{statement}
 use Rattle.names_replay.proofs.agrees.Tie as tie
 

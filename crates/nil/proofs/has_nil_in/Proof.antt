@@ -3,11 +3,10 @@ use mathlib.Core.Path.{_≡_, sym, _∙_}
 use mathlib.Core.Bool.{false}
 use borrow.Author.Needs.{needs}
 use borrow.Author.Tests.{not-true, not-false}
-use Rattle.attributes.specs.Next.{lent, stateGood}
+use Rattle.attributes.specs.Next.{lent, stateGood, lentState}
 use Rattle.attributes.proofs.Whole.{sized-good}
 use Rattle.attributes.proofs.Good.{Sized}
 use Rattle.table.specs.Table.{tables, validOf}
-use Rattle.nil.specs.Nil.{iterator}
 use Rattle.nil.proofs.Turns.{has-20, has-7, has-search, left-by-7}
 use Rattle.nil.proofs.has_nil_in.Statement.{statement}
 use Rattle.nil.proofs.has_nil_in.Tie as tie
@@ -20,7 +19,7 @@ unfolding validOf
 returns c =
     let a = c .before .before .before .before .before .args in
     let s = a .tag .now in
-    let st = iterator (a .place) (a .html) (a .checks) (a .key-starts .now) (a .key-ends .now) (a .keys) in
+    let st = lentState (a .place) (a .html) (a .checks) (a .key-starts .now) (a .key-ends .now) (a .keys) in
     λ limit.
     has-20 s st (tables (a .text .now) (a .starts .now) (a .plens .now) (a .vlens .now) (a .levels .now) (a .used) (a .count) (a .level) limit) (sym (c .before .is-table .ensures) ∙ not-true _ (c .if1 .taken))
 
@@ -44,7 +43,7 @@ unfolding validOf stateGood
 returns-2 c =
     let a = c .before .before .before .before .before .before .before .before .before .before .before .before .before .before .before .before .before .args in
     let s = a .tag .now in
-    let st = iterator (a .place) (a .html) (a .checks) (a .key-starts .now) (a .key-ends .now) (a .keys) in
+    let st = lentState (a .place) (a .html) (a .checks) (a .key-starts .now) (a .key-ends .now) (a .keys) in
     let bad : stateGood s st ≡ false = sized-good s (a .checks) (lent (a .key-starts .now) (a .key-ends .now) (a .keys)) (a .place) (c .before .before .before .before .before .before .before .before .before .before .before .before .before .before .before .before .before .pre .0) (c .before .before .before .before .before .before .before .before .before .before .before .before .before .before .before .before .before .pre .1) ∙ sym (c .before .before .before .before .before .before .before .before .before .state-good .ensures) ∙ not-true _ (c .before .before .before .before .before .before .before .before .if2 .taken) in
     let z : Sized st = record { starts = c .before .before .before .before .before .before .before .before .before .before .before .before .before .before .before .before .before .pre .0; ends = c .before .before .before .before .before .before .before .before .before .before .before .before .before .before .before .before .before .pre .1 } in
     λ limit.
@@ -55,7 +54,7 @@ unfolding stateGood
 search-requires c κs =
     let a = c .before .before .before .before .before .before .before .before .before .before .before .args in
     let s = a .tag .now in
-    let st = iterator (a .place) (a .html) (a .checks) (a .key-starts .now) (a .key-ends .now) (a .keys) in
+    let st = lentState (a .place) (a .html) (a .checks) (a .key-starts .now) (a .key-ends .now) (a .keys) in
     let pre = c .before .before .before .before .before .before .before .before .before .before .before .pre in
     (sized-good s (a .checks) (lent (a .key-starts .now) (a .key-ends .now) (a .keys)) (a .place) (c .before .before .before .before .before .before .before .before .before .before .before .pre .0) (c .before .before .before .before .before .before .before .before .before .before .before .pre .1) ∙ sym (c .before .before .before .state-good .ensures) ∙ not-false _ (c .before .before .if2 .left), pre .0, pre .1, pre .2, pre .3, pre .4, pre .5, pre .6)
 
@@ -70,7 +69,7 @@ unfolding validOf stateGood
 returns-3 c =
     let a = c .before .before .before .before .before .before .before .before .before .before .before .before .before .before .before .before .args in
     let s = a .tag .now in
-    let st = iterator (a .place) (a .html) (a .checks) (a .key-starts .now) (a .key-ends .now) (a .keys) in
+    let st = lentState (a .place) (a .html) (a .checks) (a .key-starts .now) (a .key-ends .now) (a .keys) in
     λ limit.
     has-search s st (tables (a .text .now) (a .starts .now) (a .plens .now) (a .vlens .now) (a .levels .now) (a .used) (a .count) (a .level) limit) (sym (c .before .before .before .before .before .before .before .before .before .before .before .before .is-table .ensures) ∙ not-false _ (c .before .before .before .before .before .before .before .before .before .before .before .if1 .left)) _ (c .before .before .before .before .search .ensures limit) (sized-good s (a .checks) (lent (a .key-starts .now) (a .key-ends .now) (a .keys)) (a .place) (c .before .before .before .before .before .before .before .before .before .before .before .before .before .before .before .before .pre .0) (c .before .before .before .before .before .before .before .before .before .before .before .before .before .before .before .before .pre .1) ∙ sym (c .before .before .before .before .before .before .before .before .state-good .ensures) ∙ not-false _ (c .before .before .before .before .before .before .before .if2 .left))
 

@@ -4,25 +4,26 @@ use Prim.Native.Nat.{ℕ}
 use mathlib.Core.Path.{_≡_, refl, sym, ap, _∙_}
 use mathlib.Core.Bool.{true}
 use borrow.Author.Needs.{needs}
-use Rattle.attributes.specs.Next.{stateGood}
+use Rattle.attributes.specs.Next.{stateGood, lentState}
 use Rattle.attributes.specs.Run.{isEnd}
 use Rattle.attributes.proofs.Good.{Sized}
+use Rattle.attributes.proofs.Whole.{lent-step}
 use Rattle.table.specs.Table.{tables}
-use Rattle.nil.specs.Nil.{iterator, searched}
-use Rattle.nil.proofs.Turns.{unread, search-ends, search-yes, search-on, no-end, says-by, lent-ready, lent-step, lent-good, lent-sized, lent-falls}
+use Rattle.nil.specs.Nil.{searched}
+use Rattle.nil.proofs.Turns.{unread, search-ends, search-yes, search-on, no-end, says-by, lent-ready, lent-good, lent-sized, lent-falls}
 use Rattle.nil.proofs.search.Statement.{statement}
 use Rattle.nil.proofs.search.Tie as tie
 
 abbrev Inv-loop : tie.InvT-loop
 Inv-loop tag key-starts₀ key-ends₀ html checks keys text starts plens vlens levels used count level stand₀ recorded₀ key-starts key-ends stand recorded =
-    (stateGood tag (iterator stand html checks key-starts key-ends recorded) ≡ true)
-    × Sized (iterator stand html checks key-starts key-ends recorded)
-    × ((limit : ℕ) → searched (tables text starts plens vlens levels used count level limit) tag (iterator stand₀ html checks key-starts₀ key-ends₀ recorded₀)
-    ≡ searched (tables text starts plens vlens levels used count level limit) tag (iterator stand html checks key-starts key-ends recorded))
+    (stateGood tag (lentState stand html checks key-starts key-ends recorded) ≡ true)
+    × Sized (lentState stand html checks key-starts key-ends recorded)
+    × ((limit : ℕ) → searched (tables text starts plens vlens levels used count level limit) tag (lentState stand₀ html checks key-starts₀ key-ends₀ recorded₀)
+    ≡ searched (tables text starts plens vlens levels used count level limit) tag (lentState stand html checks key-starts key-ends recorded))
 
 abbrev μ-loop : tie.MeasureT-loop
 μ-loop tag key-starts₀ key-ends₀ html checks keys text starts plens vlens levels used count level stand₀ recorded₀ key-starts key-ends stand recorded =
-    unread tag (iterator stand html checks key-starts key-ends recorded)
+    unread tag (lentState stand html checks key-starts key-ends recorded)
 
 loop-holds : tie.Need-loop-holds Inv-loop μ-loop
 loop-holds c = (c .before .before .before .pre .0, record { starts = c .before .before .before .pre .1; ends = c .before .before .before .pre .2 }, λ limit. refl)
@@ -57,7 +58,7 @@ returns c =
     let l = c .before .before .before .before .before .before .before .before .before .loop in
     let r = c .before .before .before .before .before .before .step-lent in
     λ limit.
-    search-ends (tables (a .text .now) (a .starts .now) (a .plens .now) (a .vlens .now) (a .levels .now) (a .used) (a .count) (a .level) limit) (a .tag .now) (iterator (l .stand) (a .html) (a .checks) (l .key-starts) (l .key-ends) (l .recorded)) (l .inv .1) (l .inv .0) (r .result .answer) (iterator (r .result .place) (a .html) (a .checks) (r .last .1 .0) (r .last .1 .1 .0) (r .result .count)) (lent-step (a .tag .now) (l .stand) (a .html) (a .checks) (l .key-starts) (l .key-ends) (l .recorded) (l .inv .1) (l .inv .0) (r .result) (r .last .1 .0) (r .last .1 .1 .0) (r .ensures)) (ap isEnd (c .enum-told .given .1)) ∙ sym (l .inv .2 limit)
+    search-ends (tables (a .text .now) (a .starts .now) (a .plens .now) (a .vlens .now) (a .levels .now) (a .used) (a .count) (a .level) limit) (a .tag .now) (lentState (l .stand) (a .html) (a .checks) (l .key-starts) (l .key-ends) (l .recorded)) (l .inv .1) (l .inv .0) (r .result .answer) (lentState (r .result .place) (a .html) (a .checks) (r .last .1 .0) (r .last .1 .1 .0) (r .result .count)) (lent-step (a .tag .now) (l .stand) (a .html) (a .checks) (l .key-starts) (l .key-ends) (l .recorded) (l .inv .0) (r .result) (r .last .1 .0) (r .last .1 .1 .0) (r .ensures)) (ap isEnd (c .enum-told .given .1)) ∙ sym (l .inv .2 limit)
 
 key-part-requires : tie.Need-key-part-requires Inv-loop μ-loop
 key-part-requires c κs = search needs
@@ -88,7 +89,7 @@ returns-2 c =
     let l = c .before .before .before .before .before .before .before .before .before .before .before .before .loop in
     let r = c .before .before .before .before .before .before .before .before .before .step-lent in
     λ limit.
-    search-yes (tables (a .text .now) (a .starts .now) (a .plens .now) (a .vlens .now) (a .levels .now) (a .used) (a .count) (a .level) limit) (a .tag .now) (iterator (l .stand) (a .html) (a .checks) (l .key-starts) (l .key-ends) (l .recorded)) (l .inv .1) (l .inv .0) (r .result .answer) (iterator (r .result .place) (a .html) (a .checks) (r .last .1 .0) (r .last .1 .1 .0) (r .result .count)) (lent-step (a .tag .now) (l .stand) (a .html) (a .checks) (l .key-starts) (l .key-ends) (l .recorded) (l .inv .1) (l .inv .0) (r .result) (r .last .1 .0) (r .last .1 .1 .0) (r .ensures)) (no-end (r .result .answer) (c .before .before .before .before .match .keys2)) (says-by (tables (a .text .now) (a .starts .now) (a .plens .now) (a .vlens .now) (a .levels .now) (a .used) (a .count) (a .level) limit) (a .tag .now) (r .result .answer) _ _ (c .before .is-nil .result) _ (c .before .before .before .key-part .ensures) (c .before .before .value-part .ensures) (c .before .is-nil .ensures limit) (c .if1 .taken)) ∙ sym (l .inv .2 limit)
+    search-yes (tables (a .text .now) (a .starts .now) (a .plens .now) (a .vlens .now) (a .levels .now) (a .used) (a .count) (a .level) limit) (a .tag .now) (lentState (l .stand) (a .html) (a .checks) (l .key-starts) (l .key-ends) (l .recorded)) (l .inv .1) (l .inv .0) (r .result .answer) (lentState (r .result .place) (a .html) (a .checks) (r .last .1 .0) (r .last .1 .1 .0) (r .result .count)) (lent-step (a .tag .now) (l .stand) (a .html) (a .checks) (l .key-starts) (l .key-ends) (l .recorded) (l .inv .0) (r .result) (r .last .1 .0) (r .last .1 .1 .0) (r .ensures)) (no-end (r .result .answer) (c .before .before .before .before .match .keys2)) (says-by (tables (a .text .now) (a .starts .now) (a .plens .now) (a .vlens .now) (a .levels .now) (a .used) (a .count) (a .level) limit) (a .tag .now) (r .result .answer) _ _ (c .before .is-nil .result) _ (c .before .before .before .key-part .ensures) (c .before .before .value-part .ensures) (c .before .is-nil .ensures limit) (c .if1 .taken)) ∙ sym (l .inv .2 limit)
 
 loop-less : tie.Need-loop-less Inv-loop μ-loop
 loop-less c =
@@ -105,7 +106,7 @@ loop-again c =
       lent-good (a .tag .now) (l .stand) (a .html) (a .checks) (l .key-starts) (l .key-ends) (l .recorded) (l .inv .1) (l .inv .0) (r .result) (r .last .1 .0) (r .last .1 .1 .0) (r .ensures),
       lent-sized (a .tag .now) (l .stand) (a .html) (a .checks) (l .key-starts) (l .key-ends) (l .recorded) (l .inv .1) (l .inv .0) (r .result) (r .last .1 .0) (r .last .1 .1 .0) (r .ensures),
       λ limit.
-          l .inv .2 limit ∙ search-on (tables (a .text .now) (a .starts .now) (a .plens .now) (a .vlens .now) (a .levels .now) (a .used) (a .count) (a .level) limit) (a .tag .now) (iterator (l .stand) (a .html) (a .checks) (l .key-starts) (l .key-ends) (l .recorded)) (l .inv .1) (l .inv .0) (r .result .answer) (iterator (r .result .place) (a .html) (a .checks) (r .last .1 .0) (r .last .1 .1 .0) (r .result .count)) (lent-step (a .tag .now) (l .stand) (a .html) (a .checks) (l .key-starts) (l .key-ends) (l .recorded) (l .inv .1) (l .inv .0) (r .result) (r .last .1 .0) (r .last .1 .1 .0) (r .ensures)) (no-end (r .result .answer) (c .before .before .before .before .match .keys2)) (says-by (tables (a .text .now) (a .starts .now) (a .plens .now) (a .vlens .now) (a .levels .now) (a .used) (a .count) (a .level) limit) (a .tag .now) (r .result .answer) _ _ (c .before .is-nil .result) _ (c .before .before .before .key-part .ensures) (c .before .before .value-part .ensures) (c .before .is-nil .ensures limit) (c .if1 .left)),
+          l .inv .2 limit ∙ search-on (tables (a .text .now) (a .starts .now) (a .plens .now) (a .vlens .now) (a .levels .now) (a .used) (a .count) (a .level) limit) (a .tag .now) (lentState (l .stand) (a .html) (a .checks) (l .key-starts) (l .key-ends) (l .recorded)) (l .inv .1) (l .inv .0) (r .result .answer) (lentState (r .result .place) (a .html) (a .checks) (r .last .1 .0) (r .last .1 .1 .0) (r .result .count)) (lent-step (a .tag .now) (l .stand) (a .html) (a .checks) (l .key-starts) (l .key-ends) (l .recorded) (l .inv .0) (r .result) (r .last .1 .0) (r .last .1 .1 .0) (r .ensures)) (no-end (r .result .answer) (c .before .before .before .before .match .keys2)) (says-by (tables (a .text .now) (a .starts .now) (a .plens .now) (a .vlens .now) (a .levels .now) (a .used) (a .count) (a .level) limit) (a .tag .now) (r .result .answer) _ _ (c .before .is-nil .result) _ (c .before .before .before .key-part .ensures) (c .before .before .value-part .ensures) (c .before .is-nil .ensures limit) (c .if1 .left)),
     )
 
 pub search-spec : {M : Type 1} → statement M

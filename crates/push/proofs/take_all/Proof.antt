@@ -9,12 +9,12 @@ use Rattle.attributes.specs.Read.{recoverOf}
 use Rattle.attributes.specs.Next.{Reading, Ready, lent, noKeys}
 use Rattle.attributes.specs.Run.{answersFrom}
 use Rattle.attributes.proofs.Good.{step-ready, step-keeps}
-use Rattle.attributes.proofs.Run.{opened-answers}
+use Rattle.attributes.proofs.Run.{opened-answers, todo}
 use Rattle.table.specs.Table.{TEXT, tables}
 use Rattle.table.specs.declared.Changed.{Changed}
 use Rattle.table.proofs.Changes.{refused}
 use Rattle.push.specs.Push.{takeAll, tagAnswers}
-use Rattle.push.proofs.Laws.{Quoted, todo, todo-less, start-ready, attribute-length, turn-stops, turn-goes-on, turn-refused}
+use Rattle.push.proofs.Laws.{Quoted, todo-less, start-ready, attribute-length, turn-stops, turn-goes-on, turn-refused}
 use Rattle.push.proofs.take_all.Statement.{statement}
 use Rattle.push.proofs.take_all.Tie as tie
 

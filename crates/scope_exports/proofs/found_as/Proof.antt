@@ -1,7 +1,6 @@
 -- `scope_exports::found_as` meets its contract: each case has its own numbers.
 use Rattle.scope_exports.specs.Scope.{codeOf, detailOf, resolvedNumbers}
-use Rattle.scope_exports.proofs.Scopes.{found-told}
-use mathlib.Core.Path.{_∙_}
+use Rattle.scope_exports.proofs.Scopes.{on-to, found-told}
 use borrow.Author.Needs.{needs}
 use Rattle.scope_exports.proofs.found_as.Statement.{statement}
 use Rattle.scope_exports.proofs.found_as.Tie as tie
@@ -32,27 +31,19 @@ numbered-requires-4 c κs = search needs
 
 returns : tie.Need-returns
 unfolding codeOf detailOf resolvedNumbers
-returns c =
-    let e = found-told _ _ (c .before .enum-told .given .1) in
-    (c .numbered .ensures .0 ∙ e .0, c .numbered .ensures .1 ∙ e .1)
+returns c = on-to (c .numbered .ensures) (found-told _ _ (c .before .enum-told .given .1))
 
 returns-2 : tie.Need-returns-2
 unfolding codeOf detailOf resolvedNumbers
-returns-2 c =
-    let e = found-told _ _ (c .before .before .found .given .1) in
-    (c .numbered2 .ensures .0 ∙ e .0, c .numbered2 .ensures .1 ∙ e .1)
+returns-2 c = on-to (c .numbered2 .ensures) (found-told _ _ (c .before .before .found .given .1))
 
 returns-3 : tie.Need-returns-3
 unfolding codeOf detailOf resolvedNumbers
-returns-3 c =
-    let e = found-told _ _ (c .before .before .found2 .given .1) in
-    (c .numbered3 .ensures .0 ∙ e .0, c .numbered3 .ensures .1 ∙ e .1)
+returns-3 c = on-to (c .numbered3 .ensures) (found-told _ _ (c .before .before .found2 .given .1))
 
 returns-4 : tie.Need-returns-4
 unfolding codeOf detailOf resolvedNumbers
-returns-4 c =
-    let e = found-told _ _ (c .before .enum-told2 .given .1) in
-    (c .numbered4 .ensures .0 ∙ e .0, c .numbered4 .ensures .1 ∙ e .1)
+returns-4 c = on-to (c .numbered4 .ensures) (found-told _ _ (c .before .enum-told2 .given .1))
 
 pub found-as-spec : {M : Type 1} → statement M
 found-as-spec =

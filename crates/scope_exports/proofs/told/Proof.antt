@@ -1,8 +1,7 @@
 -- `scope_exports::told` meets its contract: each case has its own numbers.
 use Rattle.table.specs.Changes.{numbersOf}
 use Rattle.scope_exports.specs.Scope.{codeOf, detailOf}
-use Rattle.scope_exports.proofs.Scopes.{told-as}
-use mathlib.Core.Path.{_∙_}
+use Rattle.scope_exports.proofs.Scopes.{on-to, told-as}
 use borrow.Author.Needs.{needs}
 use Rattle.scope_exports.proofs.told.Statement.{statement}
 use Rattle.scope_exports.proofs.told.Tie as tie
@@ -69,63 +68,43 @@ numbered-requires-10 c κs = search needs
 
 returns : tie.Need-returns
 unfolding codeOf detailOf numbersOf
-returns c =
-    let e = told-as _ _ (c .before .enum-told .given .1) in
-    (c .numbered .ensures .0 ∙ e .0, c .numbered .ensures .1 ∙ e .1)
+returns c = on-to (c .numbered .ensures) (told-as _ _ (c .before .enum-told .given .1))
 
 returns-2 : tie.Need-returns-2
 unfolding codeOf detailOf numbersOf
-returns-2 c =
-    let e = told-as _ _ (c .before .before .answer .given .1) in
-    (c .numbered2 .ensures .0 ∙ e .0, c .numbered2 .ensures .1 ∙ e .1)
+returns-2 c = on-to (c .numbered2 .ensures) (told-as _ _ (c .before .before .answer .given .1))
 
 returns-3 : tie.Need-returns-3
 unfolding codeOf detailOf numbersOf
-returns-3 c =
-    let e = told-as _ _ (c .before .before .answer2 .given .1) in
-    (c .numbered3 .ensures .0 ∙ e .0, c .numbered3 .ensures .1 ∙ e .1)
+returns-3 c = on-to (c .numbered3 .ensures) (told-as _ _ (c .before .before .answer2 .given .1))
 
 returns-4 : tie.Need-returns-4
 unfolding codeOf detailOf numbersOf
-returns-4 c =
-    let e = told-as _ _ (c .before .before .answer3 .given .1) in
-    (c .numbered4 .ensures .0 ∙ e .0, c .numbered4 .ensures .1 ∙ e .1)
+returns-4 c = on-to (c .numbered4 .ensures) (told-as _ _ (c .before .before .answer3 .given .1))
 
 returns-5 : tie.Need-returns-5
 unfolding codeOf detailOf numbersOf
-returns-5 c =
-    let e = told-as _ _ (c .before .before .answer4 .given .1) in
-    (c .numbered5 .ensures .0 ∙ e .0, c .numbered5 .ensures .1 ∙ e .1)
+returns-5 c = on-to (c .numbered5 .ensures) (told-as _ _ (c .before .before .answer4 .given .1))
 
 returns-6 : tie.Need-returns-6
 unfolding codeOf detailOf numbersOf
-returns-6 c =
-    let e = told-as _ _ (c .before .before .answer5 .given .1) in
-    (c .numbered6 .ensures .0 ∙ e .0, c .numbered6 .ensures .1 ∙ e .1)
+returns-6 c = on-to (c .numbered6 .ensures) (told-as _ _ (c .before .before .answer5 .given .1))
 
 returns-7 : tie.Need-returns-7
 unfolding codeOf detailOf numbersOf
-returns-7 c =
-    let e = told-as _ _ (c .before .before .answer6 .given .1) in
-    (c .numbered7 .ensures .0 ∙ e .0, c .numbered7 .ensures .1 ∙ e .1)
+returns-7 c = on-to (c .numbered7 .ensures) (told-as _ _ (c .before .before .answer6 .given .1))
 
 returns-8 : tie.Need-returns-8
 unfolding codeOf detailOf numbersOf
-returns-8 c =
-    let e = told-as _ _ (c .before .enum-told2 .given .1) in
-    (c .numbered8 .ensures .0 ∙ e .0, c .numbered8 .ensures .1 ∙ e .1)
+returns-8 c = on-to (c .numbered8 .ensures) (told-as _ _ (c .before .enum-told2 .given .1))
 
 returns-9 : tie.Need-returns-9
 unfolding codeOf detailOf numbersOf
-returns-9 c =
-    let e = told-as _ _ (c .before .enum-told3 .given .1) in
-    (c .numbered9 .ensures .0 ∙ e .0, c .numbered9 .ensures .1 ∙ e .1)
+returns-9 c = on-to (c .numbered9 .ensures) (told-as _ _ (c .before .enum-told3 .given .1))
 
 returns-10 : tie.Need-returns-10
 unfolding codeOf detailOf numbersOf
-returns-10 c =
-    let e = told-as _ _ (c .before .enum-told4 .given .1) in
-    (c .numbered10 .ensures .0 ∙ e .0, c .numbered10 .ensures .1 ∙ e .1)
+returns-10 c = on-to (c .numbered10 .ensures) (told-as _ _ (c .before .enum-told4 .given .1))
 
 pub told-spec : {M : Type 1} → statement M
 told-spec =

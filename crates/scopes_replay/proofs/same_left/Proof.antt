@@ -1,7 +1,7 @@
 -- `scopes_replay::same_left` meets its contract: each test decides, or leaves it to the next.
 use mathlib.Core.Path.{sym, _∙_}
+use Rattle.scan.proofs.Bytes.{and-on, and-off}
 use Rattle.scopes_replay.specs.Replay.{sameLeft}
-use Rattle.scopes_replay.proofs.Laws.{and-on, and-off}
 use borrow.Author.Tests.{not-true, not-false}
 use borrow.Author.Needs.{needs}
 use Rattle.scopes_replay.proofs.same_left.Statement.{statement}

@@ -1,8 +1,8 @@
 -- `scopes_replay::turn_of` meets its contract: the call is made with the parts of the record.
 use mathlib.Core.Path.{_∙_}
+use Rattle.scan.proofs.Lists.{to-end}
 use Rattle.scopes_replay.specs.Replay.{turnOf}
 use Rattle.scan.specs.Bytes.{part}
-use Rattle.scopes_replay.proofs.Laws.{to-end}
 use borrow.Author.Needs.{needs}
 use Rattle.scopes_replay.proofs.turn_of.Statement.{statement}
 use Rattle.scopes_replay.proofs.turn_of.Tie as tie

@@ -6,11 +6,11 @@ use mathlib.Core.List.{List, _++_}
 use native.Mathlib.Omega.{arith}
 use borrow.Author.Needs.{needs}
 use lib.ListN.{length}
-use Rattle.table.specs.Lists.{over}
+use Rattle.scan.specs.Lists.{over}
+use Rattle.scan.proofs.Lists.{length-over, over-over}
 use Rattle.table.specs.Table.{tables}
 use Rattle.table.specs.Changes.{roomOf, boundOf}
 use Rattle.table.specs.declared.Answer.the-variants.{Done}
-use Rattle.table.proofs.Lists.{length-over, over-over}
 use Rattle.table.proofs.Changes.{refused, room-has, append-not, append-done}
 use Rattle.table.proofs.append.Statement.{statement}
 use Rattle.table.proofs.append.Tie as tie

@@ -1,7 +1,6 @@
 -- `tags_replay::agrees` meets its contract: tables of zeros are those of a fresh iterator.
 use mathlib.Core.Path.{refl}
 use Rattle.attributes.specs.Next.{opened, noKeys}
-use Rattle.batch.specs.Batch.{lentState}
 use Rattle.tags_replay.specs.Replay.{openedOn}
 use borrow.Author.Needs.{needs}
 use Rattle.tags_replay.proofs.agrees.Statement.{statement}
@@ -20,7 +19,7 @@ same-length : tie.Need-same-length
 same-length c = search needs
 
 returns : tie.Need-returns
-unfolding openedOn lentState opened noKeys
+unfolding openedOn opened noKeys
 returns c = c .before .before .before .before .agrees-on .ensures
 
 pub agrees-spec : {M : Type 1} → statement M

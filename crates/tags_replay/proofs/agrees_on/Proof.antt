@@ -8,7 +8,8 @@ use lib.Seq.{length-take-le}
 use borrow.Author.Needs.{needs}
 use borrow.Author.Tests.{not-true, not-false}
 use Rattle.attributes.proofs.Good.{Sized}
-use Rattle.batch.specs.Batch.{lentState, leftOf, roomOf}
+use Rattle.attributes.specs.Next.{lentState}
+use Rattle.batch.specs.Batch.{leftOf, roomOf}
 use Rattle.lines.proofs.Batches.{never-wrong, read-count, read-left, left-sized}
 use Rattle.tags_replay.specs.Replay.{agreesWith, openedOn}
 use Rattle.tags_replay.proofs.Turns.{too-many, differs, last-is, goes-on, compared, few, filled, room-some, count-same, rest-on, in-room, enough}
@@ -29,7 +30,6 @@ abbrev μ-loop : tie.MeasureT-loop
     answers - total
 
 loop-holds : tie.Need-loop-holds Inv-loop μ-loop
-unfolding lentState
 loop-holds c =
     let a = c .before .before .before .before .before .args in
     let e : a .answers - 0 ≡ a .answers = omega arith in
