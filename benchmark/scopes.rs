@@ -25,8 +25,6 @@ const TEXT: usize = 65_536;
 const RECORDS: usize = 1_026;
 /// Names that are looked up by one call.
 const NAMES: usize = 256;
-/// Names for which the crate has no search, and neither have we: nothing is wanted of them.
-const LAST: &str = "the last bound";
 
 /// The caller's own resolver that is lent to the library.
 #[repr(C, align(64))]
@@ -279,7 +277,7 @@ fn names(bindings: usize) -> [(&'static str, Vec<String>); 4] {
     let bound = |n: usize| format!("ns{n}:item");
     [
         ("the first bound", vec![bound(0); NAMES]),
-        (LAST, vec![bound(bindings - 1); NAMES]),
+        ("the last bound", vec![bound(bindings - 1); NAMES]),
         ("none", vec!["nsx:item".to_string(); NAMES]),
         (
             "all in turn",
@@ -331,7 +329,7 @@ fn resolve_many(pair: &Pair, whose: &str, each: Vec<String>) -> Result<Row, Stri
         bindings: pair.bindings,
         by_crate: by_crate / NAMES as f64,
         ours: (all - none) / NAMES as f64,
-        most: (pair.bindings >= 20 && whose != LAST).then_some(0.5),
+        most: (pair.bindings >= 20).then_some(0.5),
     })
 }
 
