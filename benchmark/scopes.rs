@@ -273,12 +273,16 @@ fn push_and_pop(bindings: usize) -> Result<Row, String> {
 }
 
 /// The names that are looked up, by which binding their prefix has.
-fn names(bindings: usize) -> [(&'static str, Vec<String>); 4] {
+fn names(bindings: usize) -> [(&'static str, Vec<String>); 5] {
     let bound = |n: usize| format!("ns{n}:item");
     [
         ("the first bound", vec![bound(0); NAMES]),
         ("the last bound", vec![bound(bindings - 1); NAMES]),
         ("none", vec!["nsx:item".to_string(); NAMES]),
+        (
+            "the last two, in turn",
+            (0..NAMES).map(|k| bound(bindings - 1 - k % 2)).collect(),
+        ),
         (
             "all in turn",
             (0..NAMES).map(|k| bound(k * bindings / NAMES)).collect(),

@@ -6,5 +6,4 @@ pub mod Progress
 pub mod Good
 pub mod Run
 pub mod Parts
-pub mod Table
 pub mod Numbers

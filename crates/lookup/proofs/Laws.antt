@@ -10,8 +10,9 @@ use native.Mathlib.Nat.{add-zero, add-suc, not-suc-le-zero}
 use native.Mathlib.Numerals.{sub-one}
 use native.Mathlib.Omega.{arith}
 use lib.Dec.{eqb, leb, ltb}
-use lib.ListN.{length, getD}
-use borrow.Author.Tests.{eq-eqb, ne-eqb, eqb-false, lt-leb, le-leb, ltb-true, ltb-false}
+use lib.ListN.{length, take, getD}
+use lib.Seq.{length-take-le, getD-take}
+use borrow.Author.Tests.{eq-eqb, ne-eqb, eqb-false, lt-leb, le-leb, ltb-true, ltb-false, lt-ltb, le-ltb}
 use Rattle.scan.specs.First.{pick, firstTo}
 use Rattle.scan.specs.Bytes.{part, sameBytes}
 use Rattle.scan.proofs.Laws.{picks, to-skip, to-past}
@@ -61,31 +62,30 @@ module _ (p : ℕ → Bool) where
   last-within zero = omega arith
   last-within (suc n) = last-step n (last-within n) (p n) refl
 
--- a record's prefix beside another one, q
-module _ (T S P q : List ℕ) (i : ℕ) (h : getD S i 0 + getD P i 0 ≤ length T) where
+-- a record's prefix beside that of a name, its first n bytes
+module _ (T S P name : List ℕ) (n i : ℕ) (hn : n ≤ length name) (h : getD S i 0 + getD P i 0 ≤ length T) where
   prefix-length : length (prefixIn T S P i) ≡ getD P i 0
   unfolding prefixIn
   prefix-length = part-length T (getD S i 0) (getD S i 0 + getD P i 0) (omega arith) h ∙ omega arith
 
   -- of two lengths
-  pub unlike-length : (getD P i 0 ≡ length q → ⊥) → hasPrefix T S P q i ≡ false
+  pub unlike-length : (getD P i 0 ≡ n → ⊥) → hasPrefix T S P (take n name) i ≡ false
   unfolding hasPrefix
-  unlike-length n = same-length (prefixIn T S P i) q (λ e. n (sym prefix-length ∙ e))
+  unlike-length d = same-length (prefixIn T S P i) (take n name) (λ e. d (sym prefix-length ∙ e ∙ length-take-le n name hn))
 
-  module _ (n : getD P i 0 ≡ length q) where
-    pub like-length : hasPrefix T S P q i ≡ sameBytes (part T (getD S i 0) (getD S i 0 + length q)) q
+  module _ (e : getD P i 0 ≡ n) where
+    pub like-length : hasPrefix T S P (take n name) i ≡ sameBytes (part T (getD S i 0) (getD S i 0 + n)) (take n name)
     unfolding hasPrefix prefixIn
-    like-length = ap (λ (k : ℕ). sameBytes (part T (getD S i 0) (getD S i 0 + k)) q) n
+    like-length = ap (λ (k : ℕ). sameBytes (part T (getD S i 0) (getD S i 0 + k)) (take n name)) e
 
     -- with a last byte that differs
-    pub unlike-last : 0 < length q → (getD T (getD S i 0 + length q - 1) 0 ≡ getD q (length q - 1) 0 → ⊥) → hasPrefix T S P q i ≡ false
-    unfolding part
+    pub unlike-last : 0 < n → (getD T (getD S i 0 + n - 1) 0 ≡ getD name (n - 1) 0 → ⊥) → hasPrefix T S P (take n name) i ≡ false
     unlike-last some other =
-        let a : getD S i 0 + (length q - 1) ≡ getD S i 0 + length q - 1 = omega arith in
-        let e : length q - 1 < getD S i 0 + length q - getD S i 0 = omega arith in
+        let a : getD S i 0 + (n - 1) ≡ getD S i 0 + n - 1 = omega arith in
+        let l : n - 1 < getD S i 0 + n - getD S i 0 = omega arith in
         like-length
-        ∙ same-ne (part T (getD S i 0) (getD S i 0 + length q)) q
-        (λ x. other (ap (λ (k : ℕ). getD T k 0) (sym a) ∙ sym (part-at T (getD S i 0) (getD S i 0 + length q) (length q - 1) e) ∙ ap (λ (l : List ℕ). getD l (length q - 1) 0) x))
+        ∙ same-ne (part T (getD S i 0) (getD S i 0 + n)) (take n name)
+        (λ x. other (ap (λ (k : ℕ). getD T k 0) (sym a) ∙ sym (part-at T (getD S i 0) (getD S i 0 + n) (n - 1) l) ∙ ap (λ (t : List ℕ). getD t (n - 1) 0) x ∙ getD-take n name (n - 1) 0 (omega arith)))
 
 module _ (S P W : List ℕ) (other : Resolved) where
   pub value-none : (n : ℕ) → n ≡ 0 → other ≡ valueOr S P W other n
@@ -148,20 +148,15 @@ leb-not f n = by (ltb f n) refl where
   by true e = lt-leb n f (ltb-true f n e) ∙ ap not (sym e)
   by false e = le-leb n f (ltb-false f n e) ∙ ap not (sym e)
 
-abbrev placeOf : Colon → ℕ
-placeOf (At c) = c
-placeOf Nowhere = 0
+-- the first colon as a place, and whether that is in the name
+module _ (name : List ℕ) (c : ℕ) (e : c ≡ colonAt name) where
+  pub colon-found : c < length name → colonOf name ≡ At c
+  unfolding colonOf hasColon
+  colon-found h = rw (sym e, lt-ltb c (length name) h)
 
-colon-within : (name : List ℕ) → placeOf (colonOf name) ≤ length name
-unfolding colonOf hasColon
-colon-within name = picks (λ (x : Colon). placeOf x ≤ length name) (hasColon name) (λ e. omega (arith, ltb-true (colonAt name) (length name) e)) (λ e. omega arith)
-
--- a colon that was found is in the name
-pub colon-in : (name : List ℕ) (c : ℕ) → colonOf name ≡ At c → c ≤ length name
-colon-in name c e =
-    let w = colon-within name in
-    let q : placeOf (colonOf name) ≡ c = ap placeOf e in
-    omega arith
+  pub colon-nowhere : length name ≤ c → colonOf name ≡ Nowhere
+  unfolding colonOf hasColon
+  colon-nowhere h = rw (sym e, le-ltb c (length name) h)
 
 -- The numbers of a lookup's answer, read back: they tell all answers apart.
 abbrev read : List ℕ → Resolved

@@ -7,7 +7,6 @@
 // Each call exists twice: on lent arrays, with the name ending in `_in`, and on a resolver by value. Both test the form of
 // the resolver first (refusal 20). That test is most of what a lookup costs, so `resolve_all_in` asks for many names with
 // one test.
-use name::Colon;
 use table::Levels;
 use table::NamespaceResolver;
 use table::Numbers;
@@ -15,7 +14,7 @@ use table::Text;
 ghost use mathlib.Core.Path.{_≡_};
 ghost use mathlib.Core.Bool.{true, false};
 ghost use Prim.Native.Nat.{ℕ, _+_, _≤_, _<_};
-ghost use lib.ListN.{length, getD};
+ghost use lib.ListN.{length, take, getD};
 ghost use Rattle.scan.specs.First.{firstTo};
 ghost use Rattle.name.specs.Split.{localOf};
 ghost use Rattle.table.specs.Table.{TEXT, RECORDS, tables};
@@ -53,21 +52,21 @@ pub struct Listing {
     pub place: usize,
 }
 
-// The last of the first `count` records with this prefix, which is not empty, as its number counted from 1; 0 where there is
-// none. Lengths are compared first and then the last byte, since prefixes of one document differ most often at their ends:
-// so most records cost no inner loop.
+// The last of the first `count` records with this prefix, the first `len` bytes of the name and not none, as its number counted
+// from 1; 0 where there is none. Lengths are compared first and then the last byte, since prefixes of one document differ most
+// often at their ends: so most records cost no more.
 fn last_with<'t, 'n>(
     text: &'t [u8],
     starts: &'t Numbers,
     plens: &'t Numbers,
     count: usize,
-    prefix: &'n [u8],
+    name: &'n [u8],
+    len: usize,
 ) -> usize
-    requires { ⌜ (count ≤ RECORDS) × (0 < length (now prefix)) × ((k : ℕ) → k < count → getD (now starts) k 0 + getD (now plens) k 0 ≤ length (now text)) ⌝ }
-    ensures { λ r. ⌜ r ≡ lastBelow (hasPrefix (now (text .entry)) (now (starts .entry)) (now (plens .entry)) (now (prefix .entry))) count ⌝ }
+    requires { ⌜ (count ≤ RECORDS) × (0 < len) × (len ≤ length (now name)) × ((k : ℕ) → k < count → getD (now starts) k 0 + getD (now plens) k 0 ≤ length (now text)) ⌝ }
+    ensures { λ r. ⌜ r ≡ lastBelow (hasPrefix (now (text .entry)) (now (starts .entry)) (now (plens .entry)) (take len (now (name .entry)))) count ⌝ }
 {
-    let len = prefix.len();
-    let last = prefix[len - 1];
+    let last = name[len - 1];
     let mut i = count;
     while 0 < i {
         i -= 1;
@@ -75,11 +74,10 @@ fn last_with<'t, 'n>(
             continue;
         }
         let from = starts[i];
-        let to = from + len;
-        if text[to - 1] != last {
+        if text[from + len - 1] != last {
             continue;
         }
-        if scan::same(&text[from..to], prefix) {
+        if scan::same_start(text, from, name, len) {
             return i + 1;
         }
     }
@@ -125,23 +123,24 @@ fn value_or<'t>(
     Resolved::Bound(from, from + len)
 }
 
-// An explicit prefix.
+// An explicit prefix: the first `len` bytes of the name.
 fn explicit<'t, 'n>(
     text: &'t [u8],
     starts: &'t Numbers,
     plens: &'t Numbers,
     vlens: &'t Numbers,
     count: usize,
-    prefix: &'n [u8],
+    name: &'n [u8],
+    len: usize,
 ) -> Resolved
-    requires { ⌜ (length (now text) ≡ TEXT) × (count ≤ RECORDS) × Inside (now starts) (now plens) (now vlens) count TEXT ⌝ }
-    ensures { λ r. ⌜ r ≡ explicitOf (now (text .entry)) (now (starts .entry)) (now (plens .entry)) (now (vlens .entry)) count (now (prefix .entry)) ⌝ }
+    requires { ⌜ (length (now text) ≡ TEXT) × (count ≤ RECORDS) × Inside (now starts) (now plens) (now vlens) count TEXT × (len ≤ length (now name)) ⌝ }
+    ensures { λ r. ⌜ r ≡ explicitOf (now (text .entry)) (now (starts .entry)) (now (plens .entry)) (now (vlens .entry)) count (take len (now (name .entry))) ⌝ }
 {
-    let unknown = Resolved::Unknown(0, prefix.len());
-    if prefix.len() == 0 {
+    let unknown = Resolved::Unknown(0, len);
+    if len == 0 {
         return unknown;
     }
-    let n = last_with(text, starts, plens, count, prefix);
+    let n = last_with(text, starts, plens, count, name, len);
     value_or(starts, plens, vlens, unknown, n)
 }
 
@@ -178,7 +177,7 @@ fn either<'t, 'n>(
     ensures { λ r. ⌜ r ≡ eitherOf (now (text .entry)) (now (starts .entry)) (now (plens .entry)) (now (vlens .entry)) count (now (prefix .entry)) named wanted ⌝ }
 {
     if named {
-        return explicit(text, starts, plens, vlens, count, prefix);
+        return explicit(text, starts, plens, vlens, count, prefix, prefix.len());
     }
     default(starts, plens, vlens, count, wanted)
 }
@@ -196,10 +195,11 @@ fn split<'t, 'n>(
     requires { ⌜ (length (now text) ≡ TEXT) × (count ≤ RECORDS) × Inside (now starts) (now plens) (now vlens) count TEXT ⌝ }
     ensures { λ r. ⌜ r ≡ splitOf (now (text .entry)) (now (starts .entry)) (now (plens .entry)) (now (vlens .entry)) count (now (name .entry)) wanted ⌝ }
 {
-    let Colon::At(at) = name::index(name) else {
-        return default(starts, plens, vlens, count, wanted);
-    };
-    explicit(text, starts, plens, vlens, count, &name[..at])
+    let at = scan::byte_near(name, b':');
+    if at < name.len() {
+        return explicit(text, starts, plens, vlens, count, name, at);
+    }
+    default(starts, plens, vlens, count, wanted)
 }
 
 // `NamespaceResolver::resolve_prefix`, src/name.rs, on lent arrays: with `named`, a prefix that stands in a name, and

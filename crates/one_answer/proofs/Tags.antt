@@ -24,7 +24,9 @@ use Rattle.scan.proofs.content_from as scan·content-from
 use Rattle.scan.proofs.key_end_from as scan·key-end-from
 use Rattle.scan.proofs.byte_from as scan·byte-from
 use Rattle.scan.proofs.byte_by_bytes as scan·byte-by-bytes
+use Rattle.scan.proofs.byte_near as scan·byte-near
 use Rattle.scan.proofs.same as scan·same
+use Rattle.scan.proofs.same_start as scan·same-start
 use Rattle.name.proofs.Declares.number as name·Declares·number
 use Rattle.name.proofs.Verdict.number as name·Verdict·number
 use Rattle.name.proofs.colon_at as name·colon-at
@@ -91,8 +93,14 @@ module _ {M : Type 1} (𝓤 : URA M) (H : Heap 𝓤) (A : Atoms 𝓤) (mem : Mem
   pub scan-byte-by-bytes : Settled 𝓤 scan·byte-by-bytes.ended (scan·byte-by-bytes.clauses 𝓤 H A mem run)
   scan-byte-by-bytes κs a g y z = alone 𝓤 _ y z refl
 
+  pub scan-byte-near : Settled 𝓤 scan·byte-near.ended (scan·byte-near.clauses 𝓤 H A mem run)
+  scan-byte-near κs a g y z = alone 𝓤 _ y z refl
+
   pub scan-same : Settled 𝓤 scan·same.ended (scan·same.clauses 𝓤 H A mem run)
   scan-same κs a g y z = alone 𝓤 _ y z refl
+
+  pub scan-same-start : Settled 𝓤 scan·same-start.ended (scan·same-start.clauses 𝓤 H A mem run)
+  scan-same-start κs a g y z = alone 𝓤 _ y z refl
 
   pub name-Declares-number : Settled 𝓤 name·Declares·number.ended (name·Declares·number.clauses 𝓤 H A mem run)
   name-Declares-number κs a g y z = alone 𝓤 _ y z refl
