@@ -1,32 +1,32 @@
 //! Reads a catalogue of 100,000 tags through the Rust crate and through quick-xml's own, checks on: one
 //! process, the same tags, the same loop, both built for release.
 //!
-//! The catalogue is read in parts. On each part the ways take turns, and of all its rounds each way's
-//! fastest counts: another program on the machine can slow a round down, and nothing can make one faster.
+//! The catalogue is read in parts, and on each of them the ways take turns (turns.rs).
 //!
 //! Usage: `catalogue [--check]`. Status 1 where the ways differ in what they read or, with `--check`,
 //! where the ratio is below the one that is wanted.
 
+#[path = "../oracle/src/lcg.rs"]
+mod lcg;
+mod turns;
+
+use lcg::Lcg;
 use std::hint::black_box;
 use std::process::ExitCode;
-use std::time::Instant;
+use turns::{fastest_of, none_missed};
 
 const TAGS: usize = 100_000;
 const PART: usize = 500;
-const ROUNDS: usize = 40;
+/// Rounds on each part.
+const PART_ROUNDS: usize = 40;
 /// How many times quick-xml's speed is wanted.
 const WANTED: f64 = 1.5;
 
 /// A catalogue: which chunk lies where in which volume.
 fn catalogue() -> Vec<String> {
     // digits of a fixed sequence stand for a digest
-    let mut number = 0x9e37_79b9_7f4a_7c15_u64;
-    let mut digits = || {
-        number = number
-            .wrapping_mul(6_364_136_223_846_793_005)
-            .wrapping_add(1_442_695_040_888_963_407);
-        number >> 24
-    };
+    let mut numbers = Lcg::new(0x9e37_79b9_7f4a_7c15);
+    let mut digits = || numbers.state() >> 24;
     (0..TAGS)
         .map(|n| {
             format!(
@@ -85,6 +85,51 @@ fn by_lent_tables(tags: &[String]) -> Figures {
 /// A way to read: its name, and the function.
 type Way = (&'static str, fn(&[String]) -> Figures);
 
+const WAYS: [Way; 3] = [
+    ("quick-xml's Attributes", by_quick_xml),
+    ("Attributes::new", by_new),
+    ("Attributes::with_tables", by_lent_tables),
+];
+
+/// What all of the ways read, or which of them reads something else than quick-xml.
+fn agreed(tags: &[String]) -> Result<Figures, String> {
+    let figures = by_quick_xml(tags);
+    for (name, way) in WAYS {
+        let read = way(tags);
+        if read != figures {
+            return Err(format!("{name} reads {read:?}, quick-xml {figures:?}"));
+        }
+    }
+    Ok(figures)
+}
+
+/// Nanoseconds a tag, for each way.
+fn measured(tags: &[String]) -> [f64; 3] {
+    let mut total = [0.0; 3];
+    for part in tags.chunks(PART) {
+        let mut ways = WAYS.map(|(_, way)| move || way(black_box(part)).0);
+        let [first, second, third] = &mut ways;
+        let least = fastest_of(PART_ROUNDS, [first, second, third]);
+        for (total, least) in total.iter_mut().zip(least) {
+            *total += least;
+        }
+    }
+    total.map(|nanoseconds| nanoseconds / tags.len() as f64)
+}
+
+/// The wanted ratios that are missed, of those of the two ways that are ours.
+fn missed(times: [f64; 3]) -> Vec<String> {
+    let ratios = WAYS
+        .iter()
+        .zip(times)
+        .map(|(way, time)| (way.0, times[0] / time));
+    ratios
+        .skip(1)
+        .filter(|(_, ratio)| *ratio < WANTED)
+        .map(|(name, ratio)| format!("missed: {name}: {ratio:.2}, wanted {WANTED}"))
+        .collect()
+}
+
 fn main() -> ExitCode {
     let words: Vec<_> = std::env::args().skip(1).collect();
     let check = match words.iter().map(String::as_str).collect::<Vec<_>>()[..] {
@@ -96,55 +141,22 @@ fn main() -> ExitCode {
         }
     };
     let tags = catalogue();
-    let bytes: usize = tags.iter().map(String::len).sum();
-    let ways: [Way; 3] = [
-        ("quick-xml's Attributes", by_quick_xml),
-        ("Attributes::new", by_new),
-        ("Attributes::with_tables", by_lent_tables),
-    ];
-    let figures = by_quick_xml(&tags);
-    for (name, way) in &ways {
-        let read = way(&tags);
-        if read != figures {
-            eprintln!("catalogue: {name} reads {read:?}, quick-xml {figures:?}");
+    let (attributes, bytes) = match agreed(&tags) {
+        Ok((attributes, _)) => (attributes, tags.iter().map(String::len).sum::<usize>()),
+        Err(difference) => {
+            eprintln!("catalogue: {difference}");
             return ExitCode::FAILURE;
         }
-    }
-    let mut total = [0.0; 3];
-    for part in tags.chunks(PART) {
-        let mut best = [f64::INFINITY; 3];
-        for _ in 0..ROUNDS {
-            for (best, (_, way)) in best.iter_mut().zip(&ways) {
-                let start = Instant::now();
-                black_box(way(black_box(part)));
-                *best = best.min(start.elapsed().as_secs_f64());
-            }
-        }
-        for (total, best) in total.iter_mut().zip(best) {
-            *total += best;
-        }
-    }
-    println!(
-        "{TAGS} tags, {} attributes, {bytes} bytes, checks on",
-        figures.0
-    );
-    for ((name, _), seconds) in ways.iter().zip(total) {
-        let nanoseconds = seconds * 1e9 / TAGS as f64;
+    };
+    let times = measured(&tags);
+    println!("{TAGS} tags, {attributes} attributes, {bytes} bytes, checks on");
+    for ((name, _), time) in WAYS.iter().zip(times) {
         println!(
-            "{name:<24} {nanoseconds:>7.1} ns a tag   ratio {:.2}",
-            total[0] / seconds
+            "{name:<24} {time:>7.1} ns a tag   ratio {:.2}",
+            times[0] / time
         );
     }
-    let missed: Vec<_> = (1..3)
-        .filter(|&way| total[0] / total[way] < WANTED)
-        .collect();
-    for way in &missed {
-        eprintln!(
-            "catalogue: {} is below the wanted ratio of {WANTED}",
-            ways[*way].0
-        );
-    }
-    if check && !missed.is_empty() {
+    if check && !none_missed(WAYS.len() - 1, &missed(times)) {
         return ExitCode::FAILURE;
     }
     ExitCode::SUCCESS

@@ -35,7 +35,6 @@ struct Lent {
     value_lens: [usize; RECORDS],
     levels: [u16; RECORDS],
     head: [usize; 4],
-    detail: [usize; 5],
 }
 
 macro_rules! call {
@@ -68,39 +67,34 @@ impl Lent {
             value_lens: [0; RECORDS],
             levels: [0; RECORDS],
             head: [0; 4],
-            detail: [0; 5],
         });
         call!(mz_fresh, &mut lent);
         lent
     }
 
     fn push(&mut self, tag: &str) -> usize {
-        let detail = self.detail.as_mut_ptr();
-        call!(mz_push, self, tag.as_ptr(), tag.len(), 0, detail, 2)
+        let mut detail = [0; 2];
+        let (to, len) = (detail.as_mut_ptr(), detail.len());
+        call!(mz_push, self, tag.as_ptr(), tag.len(), 0, to, len)
     }
 
     fn pop(&mut self) -> usize {
         call!(mz_pop, self)
     }
 
-    /// As an attribute's name.
-    fn resolve(&mut self, name: &str) -> usize {
-        let detail = self.detail.as_mut_ptr();
-        call!(
-            mz_resolve,
-            self,
-            name.as_ptr(),
-            name.len(),
-            false,
-            detail,
-            2
-        )
+    /// As an attribute's name: the kind, and the bounds.
+    fn resolve(&mut self, name: &str) -> [usize; 3] {
+        let mut detail = [0; 2];
+        let (to, len) = (detail.as_mut_ptr(), detail.len());
+        let kind = call!(mz_resolve, self, name.as_ptr(), name.len(), false, to, len);
+        [kind, detail[0], detail[1]]
     }
 
     /// A listing from a place past all bindings has nothing to do but the test.
     fn test(&mut self) -> usize {
-        let detail = self.detail.as_mut_ptr();
-        call!(mz_binding, self, RECORDS, detail, 5)
+        let mut detail = [0; 5];
+        let (to, len) = (detail.as_mut_ptr(), detail.len());
+        call!(mz_binding, self, RECORDS, to, len)
     }
 
     /// Looks up the first so many of the names.
@@ -185,8 +179,7 @@ impl Pair {
     /// Whether both resolve a name alike.
     fn agree(&self, name: &str) -> Result<(), String> {
         let ours = &mut *self.ours.borrow_mut();
-        let kind = ours.resolve(name);
-        let [begin, end, ..] = ours.detail;
+        let [kind, begin, end] = ours.resolve(name);
         let alike = match self.theirs.resolve(QName(name), false).0 {
             ResolveResult::Bound(uri) => {
                 kind == 1 && ours.text[begin..end] == *uri.into_inner().as_bytes()
@@ -208,8 +201,7 @@ impl Pair {
             .resolve_all(names, names.each.len(), found);
         for (index, name) in names.each.iter().enumerate() {
             self.agree(name)?;
-            let ours = &mut *self.ours.borrow_mut();
-            let due = [ours.resolve(name), ours.detail[0], ours.detail[1]];
+            let due = self.ours.borrow_mut().resolve(name);
             if answer != 0 || due != [found.kinds[index], found.begins[index], found.ends[index]] {
                 return Err(format!("{name} among {NAMES} names"));
             }
@@ -294,7 +286,7 @@ fn names(bindings: usize) -> [(&'static str, Vec<String>); 5] {
 fn resolve_one(pair: &Pair, whose: &str, name: &str) -> Result<Row, String> {
     pair.agree(name)?;
     let [by_crate, ours] = fastest([&mut || their_resolve(&pair.theirs, name), &mut || {
-        pair.ours.borrow_mut().resolve(black_box(name))
+        pair.ours.borrow_mut().resolve(black_box(name))[0]
     }]);
     Ok(Row {
         what: format!("resolve, prefix: {whose}"),

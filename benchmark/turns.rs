@@ -21,15 +21,21 @@ fn time(way: Way, times: usize) -> f64 {
     start.elapsed().as_nanos() as f64 / times as f64
 }
 
-/// The fastest round of each way. The way that begins changes from round to round.
-pub fn fastest<const N: usize>(mut ways: [Way; N]) -> [f64; N] {
+/// The fastest round of each way.
+#[allow(dead_code, reason = "a benchmark of many parts has rounds of its own")]
+pub fn fastest<const N: usize>(ways: [Way; N]) -> [f64; N] {
+    fastest_of(ROUNDS, ways)
+}
+
+/// The same of so many rounds. The way that begins changes from round to round.
+pub fn fastest_of<const N: usize>(rounds: usize, mut ways: [Way; N]) -> [f64; N] {
     let mut times = [1; N];
     for (way, times) in ways.iter_mut().zip(&mut times) {
         time(&mut **way, 3);
         *times = (ROUND_NANOSECONDS / time(&mut **way, 3)).clamp(1.0, 1e6) as usize;
     }
     let mut least = [f64::INFINITY; N];
-    for round in 0..ROUNDS {
+    for round in 0..rounds {
         for turn in 0..N {
             let way = (round + turn) % N;
             least[way] = least[way].min(time(&mut *ways[way], times[way]));
@@ -39,6 +45,7 @@ pub fn fastest<const N: usize>(mut ways: [Way; N]) -> [f64; N] {
 }
 
 /// Nanoseconds: a fraction where they are few.
+#[allow(dead_code, reason = "not every benchmark has few and many")]
 pub fn shown(nanoseconds: f64) -> String {
     match nanoseconds {
         0.0..100.0 => format!("{nanoseconds:.1}"),

@@ -417,7 +417,12 @@ mod called {
 }
 
 #[cfg(not(libfuzzer))]
+#[path = "../oracle/src/lcg.rs"]
+mod lcg;
+
+#[cfg(not(libfuzzer))]
 mod drawn {
+    use super::lcg::Lcg;
     use std::process::ExitCode;
     use std::time::{Duration, Instant};
 
@@ -425,16 +430,12 @@ mod drawn {
     const WORDS: &str = include_str!("fuzz.dict");
     const MOST_WORDS: usize = 60;
 
-    /// A fixed sequence of numbers.
-    struct Drawn(u64);
+    /// What is drawn by a fixed sequence of numbers.
+    struct Drawn(Lcg);
 
     impl Drawn {
         const fn below(&mut self, end: usize) -> usize {
-            self.0 = self
-                .0
-                .wrapping_mul(6_364_136_223_846_793_005)
-                .wrapping_add(1_442_695_040_888_963_407);
-            (self.0 >> 33) as usize % end
+            self.0.below(end)
         }
 
         const fn byte(&mut self) -> u8 {
@@ -480,7 +481,7 @@ mod drawn {
             return ExitCode::FAILURE;
         };
         let words: Vec<_> = WORDS.lines().filter_map(word).collect();
-        let mut drawn = Drawn(11);
+        let mut drawn = Drawn(Lcg::new(11));
         let mut runs = 0;
         let start = Instant::now();
         while start.elapsed() < seconds {

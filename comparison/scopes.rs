@@ -527,46 +527,25 @@ fn hold_unwritten(scope: &Scope, call: &Call, code: usize, detail: usize) -> Res
     ))
 }
 
-/// Each lent array one shorter and one longer than it has to be.
+/// The head and the detail one shorter and one longer than they have to be. The resolver's five arrays are
+/// passed without a length.
 fn wrong_lengths(_: &Extent, tally: &mut Tally) -> Result<(), String> {
-    fn resize<T: Clone + Default>(array: &mut Vec<T>, longer: bool) {
-        let len = if longer {
-            array.len() + 1
-        } else {
-            array.len() - 1
-        };
-        array.resize(len, T::default());
-    }
     let mut pair = Pair::fresh(SEED + 5, tally)?;
     pair.make(Call::push("xmlns='u' xmlns:p='v'"))?;
     let good = pair.ours.clone();
     let mut calls = call_of_each_kind();
     calls.push(Call::Fresh);
-    for (array, longer) in (5..7).flat_map(|array| [(array, false), (array, true)]) {
-        for call in &calls {
-            let (mut scope, mut detail) = (good.clone(), call.detail_len());
-            match array {
-                0 => resize(&mut scope.text, longer),
-                1 => resize(&mut scope.starts, longer),
-                2 => resize(&mut scope.prefix_lens, longer),
-                3 => resize(&mut scope.value_lens, longer),
-                4 => resize(&mut scope.levels, longer),
-                5 => resize(&mut scope.head, longer),
-                _ if detail == 0 => continue,
-                _ => detail = if longer { detail + 1 } else { detail - 1 },
-            }
-            let what = [
-                "text",
-                "starts",
-                "prefix lengths",
-                "value lengths",
-                "levels",
-                "head",
-                "detail",
-            ];
+    for call in &calls {
+        let (head, detail) = (good.head.len(), call.detail_len());
+        let mut wrong = vec![(head - 1, detail), (head + 1, detail)];
+        if detail > 0 {
+            wrong.extend([(head, detail - 1), (head, detail + 1)]);
+        }
+        for (head, detail) in wrong {
+            let mut scope = good.clone();
+            scope.head.resize(head, 0);
             hold_unwritten(&scope, call, WRONG_LENGTH, detail).map_err(|difference| {
-                let length = if longer { "longer" } else { "shorter" };
-                format!("{} one {length}: {difference}", what[array])
+                format!("head of {head}, detail of {detail}: {difference}")
             })?;
             tally.calls += 1;
         }

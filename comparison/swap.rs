@@ -4,6 +4,10 @@
 //! Tags and calls are drawn by a fixed sequence. Usage: `swap [RUNS]`. Status: 0 no difference; 101 and
 //! the tag or the calls where there is one.
 
+#[path = "../oracle/src/lcg.rs"]
+mod lcg;
+
+use lcg::Lcg;
 use std::fmt::Debug;
 
 /// The pieces of which tags are put together.
@@ -27,17 +31,13 @@ const LEVELS: u16 = 7;
 /// No tag here has more answers.
 const ANSWERS: usize = 200;
 
-/// A fixed sequence of numbers.
+/// What is drawn by a fixed sequence of numbers.
 #[derive(Clone)]
-struct Drawn(u64);
+struct Drawn(Lcg);
 
 impl Drawn {
     fn below(&mut self, end: usize) -> usize {
-        self.0 = self
-            .0
-            .wrapping_mul(6_364_136_223_846_793_005)
-            .wrapping_add(1_442_695_040_888_963_407);
-        (self.0 >> 33) as usize % end
+        self.0.below(end)
     }
 
     fn one_of<T: Copy>(&mut self, list: &[T]) -> T {
@@ -157,7 +157,7 @@ fn main() {
         Some(word) => word.parse().expect("usage: swap [RUNS]"),
         None => 20_000,
     };
-    let mut drawn = Drawn(7);
+    let mut drawn = Drawn(Lcg::new(7));
     let mut answers = 0;
     for _ in 0..runs {
         let tag = drawn.tag();
@@ -175,10 +175,10 @@ fn main() {
     let (resolvers, calls) = (runs / 500, 50);
     let mut told = 0;
     for _ in 0..resolvers {
-        let before = drawn.0;
+        let before = drawn.0.clone();
         let ours = mezzulidda::resolve(calls, &mut drawn.clone());
         let theirs = oracle::resolve(calls, &mut drawn);
-        assert_eq!(ours, theirs, "the calls drawn from {before}");
+        assert_eq!(ours, theirs, "the calls drawn from {before:?}");
         told += ours.len();
     }
     println!(

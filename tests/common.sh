@@ -5,6 +5,7 @@
 
 root=$(cd "$(dirname "${BASH_SOURCE[0]}")/.." && pwd) || exit 1
 source_dir=${1:-${MEZZULIDDA_SOURCE:-$root/../shared/docs/src}}
+[[ $source_dir = /* ]] || source_dir=$PWD/$source_dir
 work=$(mktemp -d) || exit 1
 trap 'rm -rf "$work"' EXIT
 

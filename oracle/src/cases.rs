@@ -1,32 +1,10 @@
-//! Cases by the thousand, the same on every machine: a generator of numbers that is ours, and tags
-//! made by it. Recorded answers and the comparison draw from here.
+//! Cases by the thousand, the same on every machine: tags made by the generator of numbers beside this
+//! file. Recorded answers and the comparison draw from here.
 
-/// A linear congruential generator modulo 2^64 with Knuth's constants for MMIX; the upper half of
-/// each state is handed out.
-pub struct Lcg(u64);
+#[path = "lcg.rs"]
+mod lcg;
 
-impl Lcg {
-    pub const fn new(seed: u64) -> Self {
-        Lcg(seed)
-    }
-
-    /// The next number below `bound`, which is not 0.
-    pub fn below(&mut self, bound: usize) -> usize {
-        const MULTIPLIER: u64 = 6_364_136_223_846_793_005;
-        const INCREMENT: u64 = 1_442_695_040_888_963_407;
-        self.0 = self.0.wrapping_mul(MULTIPLIER).wrapping_add(INCREMENT);
-        (self.0 >> 32) as usize % bound
-    }
-
-    /// Yes in `percent` of a hundred draws.
-    pub fn chance(&mut self, percent: usize) -> bool {
-        self.below(100) < percent
-    }
-
-    pub fn pick<'c, T: ?Sized>(&mut self, choices: &[&'c T]) -> &'c T {
-        choices[self.below(choices.len())]
-    }
-}
+pub use lcg::Lcg;
 
 /// The bytes that steer the iterator, and two that don't.
 pub const TELLING: [u8; 8] = *b" ab=\"':\t";

@@ -1,11 +1,12 @@
 //! The oracle: quick-xml 0.42.0's own attribute iterator and namespace scopes, compiled from the
 //! crate's source as it was published, with what is private made visible.
 //!
-//! This file stands where the crate's `src/lib.rs` would. `encoding`, `errors`, `events`,
-//! `events/attributes`, `name` and `utils` are the crate's files; at the end of two of them `build`
-//! appends one `mod` line, so that `steps` and `scopes`, which are ours, stand inside the modules
-//! whose private parts they show. What the crate leans on and is not given (`escape`, `memchr`,
-//! `XmlVersion`'s method) has the crate's signature and a body that is never reached.
+//! This file stands in place of the crate's `src/lib.rs`, which names modules that are not given.
+//! `encoding`, `errors`, `events`, `events/attributes`, `name` and `utils` are the crate's files; at
+//! the end of two of them `build` appends one `mod` line, so that `steps` and `scopes`, which are
+//! ours, stand inside the modules whose private parts they show. What they lean on and is not given
+//! (`escape`, `memchr`, and `XmlVersion`'s method, which calls `escape`) has the crate's signature
+//! and a body that is never reached.
 
 #![forbid(unsafe_code)]
 // The crate's files come with parts that nothing here calls.

@@ -553,46 +553,28 @@ mod scopes {
         }
     }
 
+    /// Declarations of what is reserved: prefix, namespace and answer.
+    fn reserved() -> [(&'static str, &'static str, Result<(), NamespaceError>); 8] {
+        use NamespaceError::*;
+        let refused = |why: fn(String) -> NamespaceError, text: &str| Err(why(text.to_string()));
+        [
+            ("xml", XML, Ok(())),
+            ("xml", "urn:a", refused(InvalidXmlPrefixBind, "urn:a")),
+            ("xml", XMLNS, refused(InvalidXmlPrefixBind, XMLNS)),
+            ("xmlns", "urn:a", refused(InvalidXmlnsPrefixBind, "urn:a")),
+            ("xmlns", XMLNS, refused(InvalidXmlnsPrefixBind, XMLNS)),
+            ("v", XML, refused(InvalidPrefixForXml, "v")),
+            ("v", XMLNS, refused(InvalidPrefixForXmlns, "v")),
+            ("", XML, refused(InvalidPrefixForXml, "")),
+        ]
+    }
+
     #[test]
     fn reserved_prefixes_and_namespaces() {
         let mut resolver = NamespaceResolver::default();
         assert_eq!(attribute_of(&resolver, "xml:lang"), bound(XML));
         assert_eq!(attribute_of(&resolver, "xmlns:v"), bound(XMLNS));
-        let text = |text: &str| text.to_string();
-        for (prefix, namespace, answer) in [
-            ("xml", XML, Ok(())),
-            (
-                "xml",
-                "urn:a",
-                Err(NamespaceError::InvalidXmlPrefixBind(text("urn:a"))),
-            ),
-            (
-                "xml",
-                XMLNS,
-                Err(NamespaceError::InvalidXmlPrefixBind(text(XMLNS))),
-            ),
-            (
-                "xmlns",
-                "urn:a",
-                Err(NamespaceError::InvalidXmlnsPrefixBind(text("urn:a"))),
-            ),
-            (
-                "xmlns",
-                XMLNS,
-                Err(NamespaceError::InvalidXmlnsPrefixBind(text(XMLNS))),
-            ),
-            (
-                "v",
-                XML,
-                Err(NamespaceError::InvalidPrefixForXml(text("v"))),
-            ),
-            (
-                "v",
-                XMLNS,
-                Err(NamespaceError::InvalidPrefixForXmlns(text("v"))),
-            ),
-            ("", XML, Err(NamespaceError::InvalidPrefixForXml(text("")))),
-        ] {
+        for (prefix, namespace, answer) in reserved() {
             assert_eq!(resolver.add(named(prefix), Namespace(namespace)), answer);
             let content = format!("a xmlns:{prefix}='{namespace}'");
             assert_eq!(resolver.push(&tag(&content)), answer);

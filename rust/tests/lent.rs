@@ -231,10 +231,9 @@ fn memory_of_any_content() {
     }
 }
 
-#[test]
-fn memory_of_a_resolver_with_a_byte_or_two_changed() {
-    let mut drawn = Drawn(42_007);
-    let mut bytes = Aligned::<{ Memory::SIZE }>::zeros();
+/// A resolver with three tags pushed.
+fn of_three_tags() -> Box<Aligned<{ Memory::SIZE }>> {
+    let mut bytes = Aligned::zeros();
     let memory = Memory::from_bytes(&mut bytes.0).unwrap();
     let mut resolver = NamespaceResolver::new_in(memory);
     for content in [
@@ -242,13 +241,16 @@ fn memory_of_a_resolver_with_a_byte_or_two_changed() {
         "b",
         "c xmlns='' xmlns:q='urn:q'",
     ] {
-        resolver
-            .push(&BytesStart::from_content(content, 1))
-            .unwrap();
+        let tag = BytesStart::from_content(content, 1);
+        resolver.push(&tag).unwrap();
     }
-    let good = bytes.0;
+    bytes
+}
+
+#[test]
+fn memory_of_a_resolver_with_a_byte_or_two_changed() {
     // most of the changes are made where memory is in use
-    let parts = [
+    const PARTS: [usize; 8] = [
         0,
         STARTS,
         PREFIX_LENS,
@@ -258,11 +260,14 @@ fn memory_of_a_resolver_with_a_byte_or_two_changed() {
         TEXT - 96,
         HEAD - 96,
     ];
+    let mut drawn = Drawn(42_007);
+    let mut bytes = of_three_tags();
+    let good = bytes.0;
     let mut kept = 0;
     for round in 0..1_500 {
         bytes.0 = good;
         for _ in 0..=round % 2 {
-            let at = parts[drawn.below(parts.len())] + drawn.below(96);
+            let at = PARTS[drawn.below(PARTS.len())] + drawn.below(96);
             bytes.0[at] = match round % 3 {
                 0 => drawn.below(256) as u8,
                 _ => bytes.0[at] ^ (1 << drawn.below(8)),

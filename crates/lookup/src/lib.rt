@@ -4,9 +4,9 @@
 // `prefix_part` hand back those bytes, the one as a part of the text and the other as a part of the name, each for as long
 // as its own slice lives.
 //
-// Each call exists twice: on lent arrays, with the name ending in `_in`, and on a resolver by value. Both test the form of
-// the resolver first (refusal 20). That test is most of what a lookup costs, so `resolve_all_in` asks for many names with
-// one test.
+// A name that ends in `_in` takes lent arrays, any other a resolver by value; `resolve_element` and `resolve_attribute`
+// have the second form alone. Each of them tests the form of the resolver first (refusal 20). That test is most of what a
+// lookup costs, so `resolve_all_in`, which has the first form alone, asks for many names with one test.
 use table::Levels;
 use table::NamespaceResolver;
 use table::Numbers;

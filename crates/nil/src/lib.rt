@@ -170,7 +170,7 @@ fn search<'k, 't>(
 }
 
 // `Attributes::has_nil`, src/events/attributes.rs, on lent tables: those of the iterator have 256 places each. Both are
-// tested first, the resolver once for the whole tag.
+// tested first; the lookup of a `nil` that says yes tests the resolver again.
 pub fn has_nil_in<'k, 't>(
     tag: &[u8],
     key_starts: &'k mut [usize],
