@@ -5,6 +5,5 @@ pub mod Ways
 pub mod Progress
 pub mod Good
 pub mod Run
-pub mod Parts
 pub mod Table
 pub mod Numbers
