@@ -5,5 +5,4 @@ pub mod Ways
 pub mod Progress
 pub mod Good
 pub mod Run
-pub mod Parts
 pub mod Numbers

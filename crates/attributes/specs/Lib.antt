@@ -3,4 +3,3 @@ pub mod Next
 pub mod Run
 pub mod Look
 pub mod Numbers
-pub mod Parts

@@ -1,8 +1,8 @@
 // The attribute iterator over the bytes of a start tag.
 //
-// Ports `IterState` of src/events/attributes.rs, with `with_checks` of `Attributes` and `as_bool` of `Attribute`. What it
-// answers is `nextOf` of specs/Next.antt, for every tag and every state. The work is done on tables that the caller
-// lends (`step_lent`, and `next_lent` with the test of refusal 7 before it); `IterState::next` lends its own.
+// Ports `IterState` of src/events/attributes.rs, with `with_checks` of `Attributes`. What it answers is `nextOf` of
+// specs/Next.antt, for every tag and every state. The work is done on tables that the caller lends (`step_lent`, and
+// `next_lent` with the test of refusal 7 before it); `IterState::next` lends its own.
 //
 // The names are the crate's. Its `keys: Vec<Range<usize>>` is two tables and a count here, its `Option` and `Result` an
 // enum for each kind of answer. Documents number the refusals: `numbersOf` (specs/Numbers.antt) gives an answer's number
@@ -13,7 +13,6 @@ ghost use Prim.Native.Nat.{_+_, _^_, _<_, _≤_};
 ghost use lib.ListN.{length, replicate};
 ghost use Rattle.attributes.specs.Read.{isQuote, skipOf, skipEqValueOf, recoverOf, keyAt, closedOf, quotedOf, valueAt};
 ghost use Rattle.attributes.specs.Next.{Ready, lent, made, placeAt, placeGood, bareOf, valuedOf, stepOf, lentGood, nextIn, nextOf, opened, withChecks};
-ghost use Rattle.attributes.specs.Parts.{spanPart, keyPart, valuePart, truthOf};
 ghost use Rattle.keys.specs.Keys.{KeysIn, Room};
 use keys::CAPACITY;
 use keys::Checked;
@@ -106,13 +105,6 @@ pub struct Outcome {
     pub answer: Answer,
     pub place: Place,
     pub count: usize,
-}
-
-// What a value says: `Attribute::as_bool`.
-pub enum Truth {
-    Yes,
-    No,
-    Neither,
 }
 
 // Whether a byte opens a quoted value.
@@ -551,63 +543,4 @@ impl IterState {
             },
         }
     }
-}
-
-// The bytes that a span marks; none where it does not lie in the tag.
-fn span_part(tag: &[u8], span: Span) -> &[u8]
-    ensures { λ r. ⌜ now r ≡ spanPart (now (tag .entry)) span ⌝ }
-{
-    let start = span.start;
-    let end = span.end;
-    if start > end {
-        return &tag[..0];
-    }
-    if end > tag.len() {
-        return &tag[..0];
-    }
-    &tag[start..end]
-}
-
-// The key of an answer that is an attribute, else nothing.
-pub fn key_part(tag: &[u8], answer: Answer) -> &[u8]
-    ensures { λ r. ⌜ now r ≡ keyPart (now (tag .entry)) answer ⌝ }
-{
-    match answer {
-        Answer::DoubleQ(key, _) => span_part(tag, key),
-        Answer::SingleQ(key, _) => span_part(tag, key),
-        Answer::Unquoted(key, _) => span_part(tag, key),
-        Answer::Empty(key) => span_part(tag, key),
-        _ => &tag[..0],
-    }
-}
-
-// The value of an answer that is an attribute, without its quotes, else nothing.
-pub fn value_part(tag: &[u8], answer: Answer) -> &[u8]
-    ensures { λ r. ⌜ now r ≡ valuePart (now (tag .entry)) answer ⌝ }
-{
-    match answer {
-        Answer::DoubleQ(_, value) => span_part(tag, value),
-        Answer::SingleQ(_, value) => span_part(tag, value),
-        Answer::Unquoted(_, value) => span_part(tag, value),
-        _ => &tag[..0],
-    }
-}
-
-// What a value says: `Attribute::as_bool`.
-pub fn as_bool(value: &[u8]) -> Truth
-    ensures { λ r. ⌜ r ≡ truthOf (now (value .entry)) ⌝ }
-{
-    if scan::same(value, b"1") {
-        return Truth::Yes;
-    }
-    if scan::same(value, b"true") {
-        return Truth::Yes;
-    }
-    if scan::same(value, b"0") {
-        return Truth::No;
-    }
-    if scan::same(value, b"false") {
-        return Truth::No;
-    }
-    Truth::Neither
 }

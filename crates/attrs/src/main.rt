@@ -8,6 +8,7 @@
 // 256 answers at a time: once to count them, once to show them.
 use attributes::Place;
 use batch::Batch;
+use keys::CAPACITY;
 ghost use mathlib.Core.Path.{_≡_};
 ghost use lib.ListN.{length};
 ghost use Rattle.attributes.specs.Run.{answersOf};
@@ -50,8 +51,8 @@ fn count_on<'a>(
 fn count(tag: &[u8]) -> usize
     ensures { λ r. ⌜ r ≡ length (tagAnswers (now (tag .entry))) ⌝ }
 {
-    let mut starts = [0usize; 256];
-    let mut ends = [0usize; 256];
+    let mut starts = [0usize; CAPACITY];
+    let mut ends = [0usize; CAPACITY];
     let mut numbers = [0usize; NUMBERS];
     count_on(tag, &mut starts, &mut ends, &mut numbers)
 }
@@ -95,8 +96,8 @@ fn show_on<'a>(
 }
 
 fn show(tag: &[u8], total: usize) {
-    let mut starts = [0usize; 256];
-    let mut ends = [0usize; 256];
+    let mut starts = [0usize; CAPACITY];
+    let mut ends = [0usize; CAPACITY];
     let mut numbers = [0usize; NUMBERS];
     let mut text = [0u8; TEXT];
     show_on(

@@ -23,7 +23,7 @@ use Rattle.name.proofs.Verdicts.{Allowed, yes-means, named-verdict, bind-own, b
 use Rattle.attributes.specs.declared.Span.{Span}
 use Rattle.attributes.specs.declared.Answer as Read
 use Rattle.attributes.specs.Read.{span}
-use Rattle.attributes.specs.Parts.{keyPart, valuePart}
+use Rattle.parts.specs.Parts.{keyPart, valuePart}
 use Rattle.wellformed.specs.Grammar.{Quote, double, single, Attribute, textOf, Absent, Distinct}
 use Rattle.wellformed.specs.Expected.{nameStart, nameEnd, valueStart, valueEnd, next, inQuotes, attributesOf}
 use Rattle.wellformed.specs.Expected as Due

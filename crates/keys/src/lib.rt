@@ -2,7 +2,7 @@
 //
 // Ports `IterState::check_for_duplicates`, src/events/attributes.rs. The crate's `keys: Vec<Range<usize>>` is here two
 // tables of the keys' starts and ends and a count. Its hash set, from the 33rd key, is not ported: every key is compared
-// with all recorded ones, and `any-hash-agrees` (proofs/Hash.antt) says that no hash could answer otherwise.
+// with all recorded ones, and `any-hash-agrees` (crates/hashes) says that no hash could answer otherwise.
 ghost use mathlib.Core.Path.{_≡_};
 ghost use Prim.Native.Nat.{_+_, _≤_, _<_};
 ghost use lib.ListN.{length};
@@ -65,7 +65,7 @@ fn ending_from<'a>(tag: &[u8], ends: &'a [usize], count: usize, k: usize, last: 
 //     x:id="1" x:ref="2" x:id="3"
 //     |        |         |   ^
 //     0        1      from   to        the answer is the key at index 0
-pub fn earlier_key<'a>(
+fn earlier_key<'a>(
     tag: &[u8],
     starts: &'a [usize],
     ends: &'a [usize],

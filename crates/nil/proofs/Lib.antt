@@ -1,4 +1,3 @@
 pub mod Turns
 pub mod Among
 pub mod Numbers
-pub mod Rows

@@ -23,14 +23,14 @@ use Rattle.attributes.specs.declared.Answer.the-variants.{End, DoubleQ, SingleQ
 use Rattle.attributes.specs.declared.Outcome.{Outcome}
 use Rattle.attributes.specs.declared.IterState.{IterState}
 use Rattle.attributes.specs.declared.Step.{Step}
-use Rattle.attributes.specs.declared.Truth.{Truth}
-use Rattle.attributes.specs.declared.Truth.the-variants.{Yes, No, Neither}
+use Rattle.parts.specs.declared.Truth.{Truth}
+use Rattle.parts.specs.declared.Truth.the-variants.{Yes, No, Neither}
 use Rattle.attributes.specs.Read.{recoverOf}
 use Rattle.attributes.specs.Next.{Ready, lent, made, stepOf, keysOf, stateGood, noKeys, badReading, leaves, nextOf, lentState}
 use Rattle.attributes.specs.Run.{isEnd}
-use Rattle.attributes.specs.Parts.{keyPart, valuePart, truthOf}
+use Rattle.parts.specs.Parts.{keyPart, valuePart, truthOf}
 use Rattle.attributes.proofs.Answer as A
-use Rattle.attributes.proofs.Truth as T
+use Rattle.parts.proofs.Truth as T
 use Rattle.attributes.proofs.Whole.{lent-step, next-bad, next-steps, next-ready}
 use Rattle.attributes.proofs.Good.{Sized, next-stays-good, next-sized}
 use Rattle.attributes.proofs.Run.{todo, todo-falls}

@@ -9,11 +9,11 @@ use Rattle.scan.specs.Bytes.{sameBytes, bytes}
 use Rattle.name.specs.Split.{localOf}
 use Rattle.attributes.specs.declared.Answer.{Answer}
 use Rattle.attributes.specs.declared.IterState.{IterState}
-use Rattle.attributes.specs.declared.Truth.{Truth}
-use Rattle.attributes.specs.declared.Truth.the-variants as Says
+use Rattle.parts.specs.declared.Truth.{Truth}
+use Rattle.parts.specs.declared.Truth.the-variants as Says
 use Rattle.attributes.specs.Next.{stateGood, nextOf}
 use Rattle.attributes.specs.Run.{isEnd}
-use Rattle.attributes.specs.Parts.{keyPart, valuePart, truthOf}
+use Rattle.parts.specs.Parts.{keyPart, valuePart, truthOf}
 use Rattle.table.specs.Table.{validOf}
 use Rattle.table.specs.declared.NamespaceResolver.{NamespaceResolver}
 use Rattle.lookup.specs.Lookup.{resolveOf, uriPart}

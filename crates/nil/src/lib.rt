@@ -1,5 +1,4 @@
-// What stands on both the iterator and the resolver: `Attributes::has_nil`, src/events/attributes.rs, and a lookup turned
-// into an optional namespace, `TryFrom<ResolveResult>`, src/name.rs.
+// What stands on both the iterator and the resolver: `Attributes::has_nil`, src/events/attributes.rs.
 //
 //     tag   e  f:nil="0"  f:nil="true"  x:nil="1"       within  xmlns:f="http://www.w3.org/2001/XMLSchema-instance"
 //            |           |            ^
@@ -7,8 +6,7 @@
 use attributes::Answer;
 use attributes::IterState;
 use attributes::Place;
-use attributes::Truth;
-use lookup::Resolved;
+use parts::Truth;
 use table::Levels;
 use table::NamespaceResolver;
 use table::Numbers;
@@ -21,7 +19,6 @@ ghost use Rattle.keys.specs.Keys.{capacity};
 ghost use Rattle.attributes.specs.Next.{stateGood, lentState};
 ghost use Rattle.table.specs.Table.{TEXT, RECORDS, tables};
 ghost use Rattle.nil.specs.Nil.{said, isNil, searched, hasNilOf};
-ghost use Rattle.nil.specs.Convert.{namespaceOf};
 
 // Whether a tag has a `nil` that is true: the crate's bool, and the refusals of what it is asked with.
 pub enum Nil {
@@ -48,29 +45,6 @@ pub struct Outcome {
     pub count: usize,
 }
 
-// What a lookup says of a name's namespace: `Result<Option<Namespace>, NamespaceError>` of src/name.rs.
-pub enum Namespace {
-    // where the URI stands in the resolver's text
-    Bound(usize, usize),
-    Unbound,
-    // 11: `p:a` where `p` is not bound: where the prefix stands in the name
-    UnknownPrefix(usize, usize),
-    // 20
-    BadResolver,
-}
-
-// `TryFrom<ResolveResult>` for `Option<Namespace>`, src/name.rs. Nothing is changed by it, whatever it answers.
-pub fn namespace_of(found: Resolved) -> Namespace
-    ensures { λ r. ⌜ r ≡ namespaceOf found ⌝ }
-{
-    match found {
-        Resolved::Bound(from, to) => Namespace::Bound(from, to),
-        Resolved::Unbound => Namespace::Unbound,
-        Resolved::Unknown(from, to) => Namespace::UnknownPrefix(from, to),
-        Resolved::BadResolver => Namespace::BadResolver,
-    }
-}
-
 // Whether one attribute is what `has_nil` looks for: the closure in `Attributes::has_nil`. The name is resolved last, as
 // that costs most and most names are not called `nil`.
 fn is_nil<'t, 'n>(
@@ -91,7 +65,7 @@ fn is_nil<'t, 'n>(
     if !scan::same(name::local_name(key), b"nil") {
         return false;
     }
-    let truth = attributes::as_bool(value);
+    let truth = parts::as_bool(value);
     let Truth::Yes = truth else {
         return false;
     };
@@ -146,8 +120,8 @@ fn search<'k, 't>(
                 count: recorded,
             };
         }
-        let key = attributes::key_part(tag, answer);
-        let value = attributes::value_part(tag, answer);
+        let key = parts::key_part(tag, answer);
+        let value = parts::value_part(tag, answer);
         if is_nil(
             text,
             starts,

@@ -22,7 +22,7 @@ use Rattle.attributes.specs.declared.Answer.the-variants.{End, DoubleQ, SingleQ
 use Rattle.attributes.specs.Read.{recoverOf}
 use Rattle.attributes.specs.Next.{Keys, Reading, Ready, lent, stepOf, placeGood}
 use Rattle.attributes.specs.Run.{isEnd, consUnless, runLent, runFrom, answersFrom}
-use Rattle.attributes.specs.Parts.{keyPart, valuePart}
+use Rattle.parts.specs.Parts.{keyPart, valuePart}
 use Rattle.attributes.proofs.Answer as E
 use Rattle.attributes.proofs.Whole.{recover-in}
 use Rattle.attributes.proofs.Run.{lent-resumes, from-more, left-all, todo, todo-falls}

@@ -11,7 +11,7 @@ use Rattle.attributes.specs.declared.Answer as Read
 use Rattle.attributes.specs.declared.Answer.the-variants.{End, DoubleQ, SingleQ, Unquoted, Empty, ExpectedEq, ExpectedValue, UnquotedValue, ExpectedQuote, Duplicated, KeyTableFull, BadState}
 use Rattle.attributes.specs.Next.{opened}
 use Rattle.attributes.specs.Run.{answersOf}
-use Rattle.attributes.specs.Parts.{keyPart, valuePart}
+use Rattle.parts.specs.Parts.{keyPart, valuePart}
 use Rattle.table.specs.Table.{tables, validOf}
 use Rattle.table.specs.Changes.{isDone, changed}
 use Rattle.table.specs.declared.NamespaceResolver.{NamespaceResolver}

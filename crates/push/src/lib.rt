@@ -9,6 +9,7 @@
 use attributes::Answer;
 use attributes::Place;
 use attributes::Span;
+use keys::CAPACITY;
 use resolver::Places;
 use table::Changed;
 use table::Levels;
@@ -112,8 +113,8 @@ fn take_all<'s>(
     requires { ⌜ length (now text) ≡ TEXT ⌝ }
     ensures { λ r. ⌜ changed (r .answer) (tables (now (text .exit)) (now (starts .exit)) (now (plens .exit)) (now (vlens .exit)) (now (levels .exit)) (r .used) (r .count) (r .level) limit) ≡ takeAll (now (tag .entry)) (tagAnswers (now (tag .entry)) from) (tables (now (text .entry)) (now (starts .entry)) (now (plens .entry)) (now (vlens .entry)) (now (levels .entry)) used count level limit) ⌝ }
 {
-    let mut begins = [0usize; 256];
-    let mut ends = [0usize; 256];
+    let mut begins = [0usize; CAPACITY];
+    let mut ends = [0usize; CAPACITY];
     let mut keys: usize = 0;
     let mut place = Place::Next(from);
     let mut bytes = used;
@@ -135,8 +136,8 @@ fn take_all<'s>(
             records,
             depth,
             limit,
-            attributes::key_part(tag, answer),
-            attributes::value_part(tag, answer),
+            parts::key_part(tag, answer),
+            parts::value_part(tag, answer),
             key,
             value,
         );
@@ -179,7 +180,7 @@ pub fn push_in<'s>(
     }
     if DEEPEST <= level {
         return Outcome {
-            answer: table::Answer::TooDeeplyNested(65535),
+            answer: table::Answer::TooDeeplyNested(DEEPEST as usize),
             used: used,
             count: count,
             level: level,

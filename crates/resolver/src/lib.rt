@@ -92,7 +92,7 @@ pub fn declare_in<'a>(
         },
         Judged::Bind(n) => {
             let bound = &prefix[..n];
-            table::append(
+            changes::append(
                 text,
                 starts,
                 plens,
@@ -212,7 +212,7 @@ pub fn add<'a>(
     }
 }
 
-// `NamespaceResolver::set_level`, src/name.rs; on lent arrays it is `table::set_level`.
+// `NamespaceResolver::set_level`, src/name.rs; on lent arrays it is `changes::set_level`.
 pub fn set_level(r: NamespaceResolver, to: u16) -> Changed
     ensures { λ c. ⌜ c ≡ levelOf r to ⌝ }
 {
@@ -221,7 +221,7 @@ pub fn set_level(r: NamespaceResolver, to: u16) -> Changed
     let mut plens = r.plens;
     let mut vlens = r.vlens;
     let mut levels = r.levels;
-    let out = table::set_level(
+    let out = changes::set_level(
         &mut text,
         &mut starts,
         &mut plens,
@@ -259,7 +259,7 @@ pub fn below(level: u16) -> u16
     level - 1
 }
 
-// `NamespaceResolver::pop`, src/name.rs; on lent arrays it is `table::set_level` to `below` the level.
+// `NamespaceResolver::pop`, src/name.rs; on lent arrays it is `changes::set_level` to `below` the level.
 pub fn pop(r: NamespaceResolver) -> Changed
     ensures { λ c. ⌜ c ≡ popOf r ⌝ }
 {
@@ -269,7 +269,7 @@ pub fn pop(r: NamespaceResolver) -> Changed
     let mut vlens = r.vlens;
     let mut levels = r.levels;
     let level = r.level;
-    let out = table::set_level(
+    let out = changes::set_level(
         &mut text,
         &mut starts,
         &mut plens,

@@ -2,6 +2,7 @@
 // `stdout`, which was written from the document. A row: the mode (`x` XML, `h` HTML), the opening position, the tag between
 // bars; then its answers, a line each (crates/lines), and `end`.
 use attributes::Place;
+use keys::CAPACITY;
 
 fn row_on<'a>(
     tag: &[u8],
@@ -39,8 +40,8 @@ fn row(tag: &[u8], html: bool, open: usize) {
     io::write_all(1, b" |");
     io::write_all(1, tag);
     io::write_all(1, b"|\n");
-    let mut starts = [0usize; 256];
-    let mut ends = [0usize; 256];
+    let mut starts = [0usize; CAPACITY];
+    let mut ends = [0usize; CAPACITY];
     let mut numbers = [0usize; 80];
     let mut text = [0u8; 1712];
     row_on(

@@ -258,7 +258,7 @@ pub extern "C" fn mz_pop(
         return BAD_RESOLVER;
     }
     let depth = level as u16;
-    let out = table::set_level(
+    let out = changes::set_level(
         text,
         starts,
         plens,
@@ -275,7 +275,7 @@ pub extern "C" fn mz_pop(
     x.code
 }
 
-// A level is set, and the records above it are dropped: `table::set_level`.
+// A level is set, and the records above it are dropped: `changes::set_level`.
 #[no_mangle]
 pub extern "C" fn mz_set_level(
     text: &mut Text,
@@ -299,7 +299,7 @@ pub extern "C" fn mz_set_level(
         return BAD_RESOLVER;
     }
     let depth = level as u16;
-    let out = table::set_level(text, starts, plens, vlens, levels, used, count, depth, to);
+    let out = changes::set_level(text, starts, plens, vlens, levels, used, count, depth, to);
     let answer = out.answer;
     let x = told(answer);
     put_four(head, out.used, out.count, wide(out.level), limit);

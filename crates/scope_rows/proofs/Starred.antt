@@ -8,7 +8,7 @@ use Rattle.keys.specs.Keys.{keyGood, keyBad, countGood, tableGood, nameAt, same
 use Rattle.attributes.specs.Read.{isAt, isQuote, skipTo, skipOf, recoverOf, keyEq, keyTo, keyFrom, keyAt, quoted, closedOf, quotedTo, quotedOf, unquotedTo, otherOf, valueIn, valueFrom, valueAt}
 use Rattle.attributes.specs.Next.{checkOf, keptBy, placeAt, bareBy, bareTo, bareOf, valuedBy, valuedTo, valuedOf, readKey, readAt, stepFrom, stepOf, placeGood, keysOf, stateGood, noKeys, badReading, leaves, nextOf, opened}
 use Rattle.attributes.specs.Run.{isEnd, consUnless, runOf, answersOf}
-use Rattle.attributes.specs.Parts.{spanPart, keyPart, valuePart}
+use Rattle.parts.specs.Parts.{spanPart, keyPart, valuePart}
 use Rattle.name.specs.Reserved.{xmlPrefix, xmlnsPrefix, xmlUri, xmlnsUri, isXml, isXmlns, isXmlUri, isXmlnsUri}
 use Rattle.name.specs.Bind.{reservedBind}
 use Rattle.name.specs.Declares.{opening, isNamed, declaresOf, declaredPrefix}

@@ -7,7 +7,7 @@ use Rattle.name.specs.Declares.{declaresOf, declaredPrefix}
 use Rattle.attributes.specs.declared.Span.{Span}
 use Rattle.attributes.specs.declared.Answer as Read
 use Rattle.attributes.specs.declared.Answer.the-variants.{End, DoubleQ, SingleQ, Unquoted, Empty, ExpectedEq, ExpectedValue, UnquotedValue, ExpectedQuote, Duplicated, KeyTableFull, BadState}
-use Rattle.attributes.specs.Parts.{keyPart, valuePart}
+use Rattle.parts.specs.Parts.{keyPart, valuePart}
 use Rattle.table.specs.Changes.{changed}
 use Rattle.table.specs.declared.NamespaceResolver.{NamespaceResolver}
 use Rattle.table.specs.declared.Changed.{Changed}

@@ -8,6 +8,7 @@
 // the run is the same however it is cut. What is counted is `replayOf`, specs/Replay.antt.
 use attributes::Place;
 use batch::Batch;
+use keys::CAPACITY;
 ghost use mathlib.Core.Path.{_≡_};
 ghost use Prim.Native.Nat.{_+_, _*_, _≤_, _<_};
 ghost use lib.ListN.{length};
@@ -118,8 +119,8 @@ fn agrees(
     requires { ⌜ (5 ≤ length (now out)) × (10 * answers ≤ length (now recorded)) ⌝ }
     ensures { λ r. ⌜ r ≡ agreesWith (now (tag .entry)) (opened opening html checks) answers (now (recorded .entry)) ⌝ }
 {
-    let mut starts = [0usize; 256];
-    let mut ends = [0usize; 256];
+    let mut starts = [0usize; CAPACITY];
+    let mut ends = [0usize; CAPACITY];
     agrees_on(
         tag,
         html,

@@ -14,7 +14,7 @@ use Rattle.attributes.specs.declared.Answer.{Answer}
 use Rattle.attributes.specs.Read.{span}
 use Rattle.attributes.specs.Next.{opened}
 use Rattle.attributes.specs.Numbers.{numbersOf}
-use Rattle.attributes.specs.Parts.{spanPart, keyPart, valuePart}
+use Rattle.parts.specs.Parts.{spanPart, keyPart, valuePart}
 use Rattle.attributes.specs.Run.{answersOf}
 use Rattle.wellformed.specs.Grammar.{Quote, double, single, Lacks, Attribute, Body, attributesThen, textOf, AttributesBy, BodyBy, WellFormed, HasBody, Distinct}
 use Rattle.wellformed.specs.Expected.{nameStart, nameEnd, valueStart, valueEnd, next, inQuotes, attributeOf, attributesOf, isRefusal, noRefusal}

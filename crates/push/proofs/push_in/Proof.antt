@@ -14,6 +14,9 @@ returns : tie.Need-returns
 unfolding pushOf validOf
 returns c = rw (sym (c .before .is-table .ensures) ∙ not-true _ (c .if1 .taken))
 
+cast-t20 : tie.Need-cast-t20
+cast-t20 c = search needs
+
 returns-2 : tie.Need-returns-2
 unfolding pushOf validOf
 returns-2 c = rw (sym (c .before .before .is-table .ensures) ∙ not-false _ (c .before .if1 .left), le-leb _ _ (c .if2 .taken))
@@ -29,4 +32,4 @@ unfolding pushOf validOf raisedOf
 returns-3 c = c .take-all .ensures ∙ rw (sym (c .before .before .before .before .before .before .before .before .is-table .ensures) ∙ not-false _ (c .before .before .before .before .before .before .before .if1 .left), lt-leb _ _ (c .before .before .before .before .before .before .if2 .left))
 
 pub push-in-spec : {M : Type 1} → statement M
-push-in-spec = tie.close (tie.spec is-table-requires returns returns-2 add-take-all take-all-requires returns-3)
+push-in-spec = tie.close (tie.spec is-table-requires returns cast-t20 returns-2 add-take-all take-all-requires returns-3)
