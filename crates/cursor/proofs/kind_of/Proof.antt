@@ -1,44 +1,34 @@
--- `mezzulidda::kind_of` meets its contract: one number for each kind.
+-- `cursor::kind_of` meets its contract: one number for each kind.
 use mathlib.Core.Path.{sym, ap}
-use Rattle.mezzulidda.specs.Reading.{kindOf}
+use Rattle.cursor.specs.Cursor.{kindOf}
 use borrow.Author.Needs.{needs}
-use Rattle.mezzulidda.proofs.kind_of.Statement.{statement}
-use Rattle.mezzulidda.proofs.kind_of.Tie as tie
-use Rattle.mezzulidda.proofs.kind_of.Reads as reads
-use Rattle.mezzulidda.proofs.kind_of.Lts as lts
+use Rattle.cursor.proofs.kind_of.Statement.{statement}
+use Rattle.cursor.proofs.kind_of.Tie as tie
 
--- src/lib.rt:83:24
 enum-told : tie.Need-enum-told
 enum-told c = search needs
 
--- src/lib.rt:84:27
 enum-told-2 : tie.Need-enum-told-2
 enum-told-2 c = search needs
 
--- src/lib.rt:85:32
 enum-told-3 : tie.Need-enum-told-3
 enum-told-3 c = search needs
 
--- src/lib.rt:86:34
 enum-told-4 : tie.Need-enum-told-4
 enum-told-4 c = search needs
 
--- src/lib.rt:79:1
 returns : tie.Need-returns
 unfolding kindOf
 returns c = ap kindOf (sym (c .enum-told .given .1))
 
--- src/lib.rt:79:1
 returns-2 : tie.Need-returns-2
 unfolding kindOf
 returns-2 c = ap kindOf (sym (c .enum-told2 .given .1))
 
--- src/lib.rt:79:1
 returns-3 : tie.Need-returns-3
 unfolding kindOf
 returns-3 c = ap kindOf (sym (c .enum-told3 .given .1))
 
--- src/lib.rt:79:1
 returns-4 : tie.Need-returns-4
 unfolding kindOf
 returns-4 c = ap kindOf (sym (c .enum-told4 .given .1))

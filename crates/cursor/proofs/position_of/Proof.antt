@@ -1,44 +1,34 @@
--- `mezzulidda::position_of` meets its contract: the position of each kind, 0 for done.
+-- `cursor::position_of` meets its contract: the position of each kind, 0 for done.
 use mathlib.Core.Path.{sym, ap}
-use Rattle.mezzulidda.specs.Reading.{positionOf}
+use Rattle.cursor.specs.Cursor.{positionOf}
 use borrow.Author.Needs.{needs}
-use Rattle.mezzulidda.proofs.position_of.Statement.{statement}
-use Rattle.mezzulidda.proofs.position_of.Tie as tie
-use Rattle.mezzulidda.proofs.position_of.Reads as reads
-use Rattle.mezzulidda.proofs.position_of.Lts as lts
+use Rattle.cursor.proofs.position_of.Statement.{statement}
+use Rattle.cursor.proofs.position_of.Tie as tie
 
--- src/lib.rt:95:24
 enum-told : tie.Need-enum-told
 enum-told c = search needs
 
--- src/lib.rt:96:21
 enum-known-place : tie.Need-enum-known-place
 enum-known-place c = search needs
 
--- src/lib.rt:97:26
 enum-known-place-2 : tie.Need-enum-known-place-2
 enum-known-place-2 c = search needs
 
--- src/lib.rt:98:28
 enum-known-place-3 : tie.Need-enum-known-place-3
 enum-known-place-3 c = search needs
 
--- src/lib.rt:91:1
 returns : tie.Need-returns
 unfolding positionOf
 returns c = ap positionOf (sym (c .enum-told .given .1))
 
--- src/lib.rt:91:1
 returns-2 : tie.Need-returns-2
 unfolding positionOf
 returns-2 c = ap positionOf (sym (c .before .place .given .1))
 
--- src/lib.rt:91:1
 returns-3 : tie.Need-returns-3
 unfolding positionOf
 returns-3 c = ap positionOf (sym (c .before .place2 .given .1))
 
--- src/lib.rt:91:1
 returns-4 : tie.Need-returns-4
 unfolding positionOf
 returns-4 c = ap positionOf (sym (c .before .place3 .given .1))

@@ -1,32 +1,25 @@
--- `mezzulidda::place_from` meets its contract: the tests are those of the definition.
+-- `cursor::place_from` meets its contract: the tests are those of the definition.
 use borrow.Author.Tests.{eq-eqb, ne-eqb}
-use Rattle.mezzulidda.specs.Reading.{placeFrom}
-use Rattle.mezzulidda.proofs.place_from.Statement.{statement}
-use Rattle.mezzulidda.proofs.place_from.Tie as tie
-use Rattle.mezzulidda.proofs.place_from.Reads as reads
-use Rattle.mezzulidda.proofs.place_from.Lts as lts
+use Rattle.cursor.specs.Cursor.{placeFrom}
+use Rattle.cursor.proofs.place_from.Statement.{statement}
+use Rattle.cursor.proofs.place_from.Tie as tie
 
--- src/lib.rt:64:9
 returns : tie.Need-returns
 unfolding placeFrom
 returns c = rw (eq-eqb (c .before .args .kind) 0 (c .if1 .taken))
 
--- src/lib.rt:67:9
 returns-2 : tie.Need-returns-2
 unfolding placeFrom
 returns-2 c = rw (ne-eqb (c .before .before .args .kind) 0 (c .before .if1 .left), eq-eqb (c .before .before .args .kind) 1 (c .if2 .taken))
 
--- src/lib.rt:70:9
 returns-3 : tie.Need-returns-3
 unfolding placeFrom
 returns-3 c = rw (ne-eqb (c .before .before .before .args .kind) 0 (c .before .before .if1 .left), ne-eqb (c .before .before .before .args .kind) 1 (c .before .if2 .left), eq-eqb (c .before .before .before .args .kind) 2 (c .if3 .taken))
 
--- src/lib.rt:73:9
 returns-4 : tie.Need-returns-4
 unfolding placeFrom
 returns-4 c = rw (ne-eqb (c .before .before .before .before .args .kind) 0 (c .before .before .before .if1 .left), ne-eqb (c .before .before .before .before .args .kind) 1 (c .before .before .if2 .left), ne-eqb (c .before .before .before .before .args .kind) 2 (c .before .if3 .left), eq-eqb (c .before .before .before .before .args .kind) 3 (c .if4 .taken))
 
--- src/lib.rt:60:1
 returns-5 : tie.Need-returns-5
 unfolding placeFrom
 returns-5 c = rw (ne-eqb (c .before .before .before .before .args .kind) 0 (c .before .before .before .if1 .left), ne-eqb (c .before .before .before .before .args .kind) 1 (c .before .before .if2 .left), ne-eqb (c .before .before .before .before .args .kind) 2 (c .before .if3 .left), ne-eqb (c .before .before .before .before .args .kind) 3 (c .if4 .left))
