@@ -1,10 +1,10 @@
 -- The ways in which a batch comes back over the boundary, each as `readBatchOf` says it.
-use Prim.Native.Nat.{ℕ, zero, suc, _≤_}
-use mathlib.Core.Path.{_≡_, refl, sym, ap, subst, _∙_}
+use Prim.Native.Nat.{ℕ}
+use mathlib.Core.Path.{_≡_, refl, sym, ap, _∙_}
 use mathlib.Core.Bool.{Bool, true, false, _&&_}
-use mathlib.Core.List.{List, [], _∷_}
+use mathlib.Core.List.{List, []}
 use native.Mathlib.Omega.{arith}
-use lib.ListN.{length, getD, set, drop}
+use lib.ListN.{length, getD}
 use lib.Dec.{eqb}
 use borrow.Author.Tests.{eq-eqb, ne-eqb}
 use Rattle.scan.specs.First.{pick}
@@ -17,20 +17,8 @@ use Rattle.batch.specs.declared.Batch.{Batch}
 use Rattle.batch.specs.declared.Batch.the-variants.{Read, WrongTables}
 use Rattle.batch.proofs.Ends.{Said}
 use Rattle.batch.specs.Batch.{fivesOf, tablesFit, roomOf, readOf, leftOf, afterOf, writtenOf, leftBatch, batchOf}
-use Rattle.mezzulidda.specs.Reading.{placeFrom, kindOf, positionOf, heldIn, stateOf, Reading, reading, NONE, batchIn, readBatchOf}
-
--- three numbers written one after another
-pub three-put : (t : List ℕ) (a b c : ℕ) → 3 ≤ length t → set (set (set t 0 a) 1 b) 2 c ≡ a ∷ b ∷ c ∷ drop 3 t
-three-put [] a b c h = absurd (omega arith)
-three-put (x ∷ []) a b c h = absurd (omega arith)
-three-put (x ∷ y ∷ []) a b c h = absurd (omega arith)
-three-put (x ∷ y ∷ z ∷ t) a b c h = refl
-
-pub none-left : (n : ℕ) (t : List ℕ) → length t ≡ n → drop n t ≡ []
-none-left zero [] e = refl
-none-left (suc n) [] e = refl
-none-left zero (x ∷ t) e = absurd (omega arith)
-none-left (suc n) (x ∷ t) e = none-left n t (omega arith)
+use Rattle.cursor.specs.Cursor.{placeFrom, threeOf, heldIn}
+use Rattle.mezzulidda.specs.Reading.{Reading, reading, NONE, batchIn, readBatchOf}
 
 -- what a batch says of the tables
 module _ (tag out : List ℕ) (st : IterState) where
@@ -54,8 +42,8 @@ module _ (tag out : List ℕ) (st : IterState) (starts′ ends′ out′ : List 
   unfolding afterOf writtenOf readOf fivesOf
   unread state f (b, es, ee, eo) = cc (rw f at es, rw f at ee, rw f at eo, over-none out 0)
 
-  went : (n : ℕ) (left : Place) (recorded : ℕ) → Said tag st out (Read n left recorded) starts′ ends′ out′ → (tablesFit st ≡ true) × (reading n starts′ ends′ (kindOf left ∷ positionOf left ∷ recorded ∷ []) out′ ≡ batchIn tag st out)
-  unfolding batchOf batchIn stateOf afterOf readOf
+  went : (n : ℕ) (left : Place) (recorded : ℕ) → Said tag st out (Read n left recorded) starts′ ends′ out′ → (tablesFit st ≡ true) × (reading n starts′ ends′ (threeOf left recorded) out′ ≡ batchIn tag st out)
+  unfolding batchOf batchIn afterOf readOf
   went n left recorded (b, es, ee, eo) =
       let g = fit-by tag out st (tablesFit st) n left recorded b in
       (g .0, cc (es, ee, eo, g .1, g .2, g .3))
@@ -80,10 +68,10 @@ module _ (tag starts ends state out : List ℕ) (html checks : Bool) where
         let g = ap tablesFit (sym held) ∙ f in
         unread tag out st starts′ ends′ out′ state f (sym e ∙ eb, es, ee, eo) ∙ rw (eq-eqb (length state) 3 sized, g)
 
-    pub read-leaves : (b : Batch) (n : ℕ) (left : Place) (recorded : ℕ) → b ≡ Read n left recorded → Said tag (lentState place html checks starts ends (getD state 2 0)) out b starts′ ends′ out′ → (kind position : ℕ) → kind ≡ kindOf left → position ≡ positionOf left → (state′ : List ℕ) → state′ ≡ kind ∷ position ∷ recorded ∷ drop 3 state → reading n starts′ ends′ state′ out′ ≡ readBatchOf tag starts ends state out html checks
+    pub read-leaves : (b : Batch) (n : ℕ) (left : Place) (recorded : ℕ) → b ≡ Read n left recorded → Said tag (lentState place html checks starts ends (getD state 2 0)) out b starts′ ends′ out′ → (state′ : List ℕ) → state′ ≡ threeOf left recorded → reading n starts′ ends′ state′ out′ ≡ readBatchOf tag starts ends state out html checks
     unfolding readBatchOf
-    read-leaves b n left recorded e (eb, es, ee, eo) kind position ek ep state′ ew =
+    read-leaves b n left recorded e (eb, es, ee, eo) state′ ew =
         let st = lentState place html checks starts ends (getD state 2 0) in
         let w = went tag out st starts′ ends′ out′ n left recorded (sym e ∙ eb, es, ee, eo) in
         let g = ap tablesFit (sym held) ∙ w .0 in
-        cc (ek, ep, ew, none-left 3 state sized) ∙ w .1 ∙ ap (λ (x : IterState). batchIn tag x out) held ∙ rw (eq-eqb (length state) 3 sized, g)
+        ap (λ (x : List ℕ). reading n starts′ ends′ x out′) ew ∙ w .1 ∙ ap (λ (x : IterState). batchIn tag x out) held ∙ rw (eq-eqb (length state) 3 sized, g)

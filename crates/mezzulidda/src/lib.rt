@@ -5,11 +5,7 @@ ghost use Rattle.name.specs.Split.{colonAt};
 ghost use Rattle.name.specs.Reserved.{isXml, isXmlns};
 ghost use Rattle.name.specs.Declares.{declaresOf, declaresNumber};
 ghost use Rattle.name.specs.Verdict.{verdictOf, verdictNumber};
-ghost use mathlib.Core.List.{_∷_};
-ghost use Prim.Native.Nat.{_≤_};
-ghost use lib.ListN.{length, drop};
-ghost use Rattle.mezzulidda.specs.Reading.{placeFrom, kindOf, positionOf, reading, readBatchOf};
-use attributes::Place;
+ghost use Rattle.mezzulidda.specs.Reading.{reading, readBatchOf};
 use batch::Batch;
 
 // No number of answers.
@@ -55,59 +51,6 @@ pub extern "C" fn mz_verdict(name: &[u8], value: &[u8]) -> usize
     name::verdict_of(name, value).number()
 }
 
-// Writes three numbers to the beginning of an array that has room for them.
-fn put_three(t: &mut [usize], a: usize, b: usize, c: usize)
-    requires { ⌜ 3 ≤ length (now t) ⌝ }
-    ensures { λ _. ⌜ now (t .exit) ≡ a ∷ b ∷ c ∷ drop 3 (now (t .entry)) ⌝ }
-{
-    t[0] = a;
-    t[1] = b;
-    t[2] = c;
-}
-
-// A place from its kind and its position.
-fn place_from(end: usize, kind: usize, position: usize) -> Place
-    ensures { λ r. ⌜ r ≡ placeFrom end kind position ⌝ }
-{
-    if kind == 0 {
-        return Place::Done;
-    }
-    if kind == 1 {
-        return Place::Next(position);
-    }
-    if kind == 2 {
-        return Place::SkipValue(position);
-    }
-    if kind == 3 {
-        return Place::SkipEqValue(position);
-    }
-    Place::SkipValue(end)
-}
-
-// The kind of a place.
-fn kind_of(place: Place) -> usize
-    ensures { λ r. ⌜ r ≡ kindOf place ⌝ }
-{
-    match place {
-        Place::Done => 0,
-        Place::Next(_) => 1,
-        Place::SkipValue(_) => 2,
-        Place::SkipEqValue(_) => 3,
-    }
-}
-
-// Its position.
-fn position_of(place: Place) -> usize
-    ensures { λ r. ⌜ r ≡ positionOf place ⌝ }
-{
-    match place {
-        Place::Done => 0,
-        Place::Next(o) => o,
-        Place::SkipValue(o) => o,
-        Place::SkipEqValue(o) => o,
-    }
-}
-
 // As many answers of a run as `out` holds, five numbers each: `batch::read_batch`. `state` is the kind of the place (0
 // done, 1 next, 2 skip value, 3 skip from `=`), its position, and the number of recorded keys; it is left as the next
 // call takes it. The result is the number of answers, or the largest number there is where a lent array has another
@@ -127,12 +70,12 @@ pub extern "C" fn mz_read_batch<'a>(
     if state.len() != 3 {
         return NONE;
     }
-    let place = place_from(tag.len(), state[0], state[1]);
+    let place = cursor::place_from(tag.len(), state[0], state[1]);
     let count = state[2];
     let batch = batch::read_batch(tag, starts, ends, html, checks, count, place, out);
     let Batch::Read(n, left, recorded) = batch else {
         return NONE;
     };
-    put_three(state, kind_of(left), position_of(left), recorded);
+    cursor::leave(state, left, recorded);
     n
 }

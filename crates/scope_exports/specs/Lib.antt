@@ -1,3 +1,2 @@
+pub mod Calls
 pub mod Layout
-pub mod Names
-pub mod Scope

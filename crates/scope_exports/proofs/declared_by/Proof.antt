@@ -1,5 +1,5 @@
 -- `scope_exports::declared_by` meets its contract.
-use Rattle.scope_exports.specs.Scope.{declaredBy}
+use Rattle.scope_exports.specs.Calls.{declaredBy}
 use Rattle.scope_exports.proofs.declared_by.Statement.{statement}
 use Rattle.scope_exports.proofs.declared_by.Tie as tie
 

@@ -1,5 +1,7 @@
--- `scope_exports::mz_fresh` meets its contract (proofs/Scopes).
-use Rattle.scope_exports.proofs.Scopes.{head-four, fresh-refused, fresh-left}
+-- `scope_exports::mz_fresh` meets its contract: it comes back in two ways (proofs/Fresh).
+use mathlib.Core.Bool.{true}
+use Rattle.lent.proofs.Scopes.{four-by-test}
+use Rattle.scope_exports.proofs.Fresh.{fresh-refused, fresh-left}
 use borrow.Author.Needs.{needs}
 use Rattle.scope_exports.proofs.mz_fresh.Statement.{statement}
 use Rattle.scope_exports.proofs.mz_fresh.Tie as tie
@@ -18,21 +20,18 @@ returns c =
 fresh-requires : tie.Need-fresh-requires
 fresh-requires c κs = search needs
 
-wide-requires : tie.Need-wide-requires
-wide-requires c κs = search needs
-
-put-four-requires : tie.Need-put-four-requires
-put-four-requires c κs =
-    let a = c .before .before .before .before .before .before .before .before .before .before .before .before .before .before .before .before .before .before .before .before .before .before .args in
-    head-four (a .text .now) (a .starts .now) (a .plens .now) (a .vlens .now) (a .levels .now) (a .head .now) (c .before .before .before .before .before .before .before .before .before .fits2 .result) (c .before .before .before .before .before .before .before .before .before .fits2 .ensures) (c .before .before .before .before .before .before .before .before .if1 .left)
+left-head-requires : tie.Need-left-head-requires
+left-head-requires c κs =
+    let a = c .before .before .before .before .before .before .before .before .before .before .before .before .before .before .before .before .before .before .before .before .before .args in
+    four-by-test true (a .text .now) (a .starts .now) (a .plens .now) (a .vlens .now) (a .levels .now) (a .head .now) (c .before .before .before .before .before .before .before .before .fits2 .result) (c .before .before .before .before .before .before .before .before .fits2 .ensures) (c .before .before .before .before .before .before .before .if1 .left)
 
 same-length-2 : tie.Need-same-length-2
 same-length-2 c = search needs
 
 returns-2 : tie.Need-returns-2
 returns-2 c =
-    let a = c .before .before .before .before .before .before .before .before .before .before .before .before .before .before .before .before .before .before .before .before .before .before .before .before .before .args in
-    fresh-left (a .text .now) (a .starts .now) (a .plens .now) (a .vlens .now) (a .levels .now) (a .head .now) (c .before .before .before .before .before .before .before .before .before .before .before .before .fits2 .result) (c .before .before .before .before .before .before .before .before .before .before .before .before .fits2 .ensures) (c .before .before .before .before .before .before .before .before .before .before .before .if1 .left) (c .before .before .before .before .before .before .before .before .before .before .fresh .result) (c .before .before .before .before .before .before .before .before .before .before .fresh .ensures) _ (c .before .before .before .wide .ensures) _ (c .before .before .put-four .ensures)
+    let a = c .before .before .before .before .before .before .before .before .before .before .before .before .before .before .before .before .before .before .before .before .before .before .before .before .args in
+    fresh-left (a .text .now) (a .starts .now) (a .plens .now) (a .vlens .now) (a .levels .now) (a .head .now) (c .before .before .before .before .before .before .before .before .before .before .before .fits2 .result) (c .before .before .before .before .before .before .before .before .before .before .before .fits2 .ensures) (c .before .before .before .before .before .before .before .before .before .before .if1 .left) (c .before .before .before .before .before .before .before .before .before .fresh .result) (c .before .before .before .before .before .before .before .before .before .fresh .ensures) _ (c .before .before .left-head .ensures .0) _ (c .before .before .left-head .ensures .1)
 
 pub mz-fresh-spec : {M : Type 1} → statement M
 mz-fresh-spec =
@@ -42,7 +41,6 @@ mz-fresh-spec =
     same-length
     returns
     fresh-requires
-    wide-requires
-    put-four-requires
+    left-head-requires
     same-length-2
     returns-2)

@@ -1,0 +1,43 @@
+-- An iterator that stands in lent memory: two tables of recorded keys, and three numbers.
+use Prim.Native.Nat.{ℕ}
+use mathlib.Core.Bool.{Bool}
+use mathlib.Core.List.{List, [], _∷_}
+use lib.ListN.{length, getD}
+use lib.Dec.{eqb}
+use Rattle.scan.specs.First.{pick}
+use Rattle.attributes.specs.declared.Place.{Place}
+use Rattle.attributes.specs.declared.Place.the-variants.{Done, Next, SkipValue, SkipEqValue}
+use Rattle.attributes.specs.declared.IterState.{IterState}
+use Rattle.attributes.specs.Next.{lentState}
+
+-- A place as its kind and its position: 0 done, 1 next, 2 skip value, 3 skip from `=`. Another kind is no place that
+-- reading leaves, so it is read as a value to be skipped at the tag's end, which refusal 7 answers. Position beside done
+-- says nothing, and is left as 0.
+unfoldable pub placeFrom : (end kind position : ℕ) → Place
+placeFrom end kind position =
+    pick (eqb kind 0) Done
+    (pick (eqb kind 1) (Next position)
+    (pick (eqb kind 2) (SkipValue position)
+    (pick (eqb kind 3) (SkipEqValue position)
+    (SkipValue end))))
+
+unfoldable pub kindOf : Place → ℕ
+kindOf Done = 0
+kindOf (Next o) = 1
+kindOf (SkipValue o) = 2
+kindOf (SkipEqValue o) = 3
+
+unfoldable pub positionOf : Place → ℕ
+positionOf Done = 0
+positionOf (Next o) = o
+positionOf (SkipValue o) = o
+positionOf (SkipEqValue o) = o
+
+-- the three numbers: the place's kind and position, and how many keys are recorded
+unfoldable pub threeOf : Place → ℕ → List ℕ
+threeOf place recorded = kindOf place ∷ positionOf place ∷ recorded ∷ []
+
+-- the iterator that stands in lent memory
+unfoldable pub heldIn : (tag starts ends state : List ℕ) (html checks : Bool) → IterState
+heldIn tag starts ends state html checks =
+    lentState (placeFrom (length tag) (getD state 0 0) (getD state 1 0)) html checks starts ends (getD state 2 0)
