@@ -1,7 +1,7 @@
 // Changing a resolver: `add`, `set_level`, `pop` and the limit of `NamespaceResolver`, src/name.rs.
 //
 // `add` is here twice: on lent arrays, where the work is done and nothing is copied (`add_in`), and by value, where the new
-// resolver is handed back. `set_level` and `pop` are here by value; on lent arrays both are `table::set_level`. These test
+// resolver is handed back. `set_level` and `pop` are here by value; on lent arrays both are `changes::set_level`. These test
 // the form of the resolver first (refusal 20); `declare_in`, reading the level, and reading or setting the limit do not.
 use name::Declares;
 use name::NamedCheck;
