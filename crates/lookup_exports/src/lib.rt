@@ -9,11 +9,9 @@ ghost use Rattle.scan.specs.First.{pick};
 ghost use Rattle.lookup.specs.Lookup.{resolveOf};
 ghost use Rattle.lookup.specs.Listing.{bindingsOf, bindingsAtOf};
 ghost use Rattle.lent.specs.Scope.{asked, askedOf, askIn, refusedOf};
-ghost use Rattle.lookup_exports.specs.Names.{alikeOf, manyNumber, names, resolveAllIn};
 ghost use Rattle.lookup_exports.specs.Numbers.{resolvedNumbers, listedNumbers, listingNumbers};
 ghost use Rattle.lookup.specs.declared.Listed.the-variants as Shown;
 use lookup::Listed;
-use lookup::Many;
 use lookup::Resolved;
 use table::Levels;
 use table::Numbers;
@@ -188,82 +186,4 @@ pub extern "C" fn mz_binding_of<'t>(
     );
     let shown = l.answer;
     list(detail, shown, l.place)
-}
-
-// Whether there are as many starts as ends, and as many places for each part of an answer.
-fn alike<'n>(
-    from: &'n [usize],
-    to: &'n [usize],
-    kinds: &'n [usize],
-    begins: &'n [usize],
-    ends: &'n [usize],
-) -> bool
-    ensures { λ r. ⌜ r ≡ alikeOf (now (from .entry)) (now (to .entry)) (now (kinds .entry)) (now (begins .entry)) (now (ends .entry)) ⌝ }
-{
-    if to.len() != from.len() {
-        return false;
-    }
-    if kinds.len() != from.len() {
-        return false;
-    }
-    if begins.len() != from.len() {
-        return false;
-    }
-    ends.len() == from.len()
-}
-
-// The number of what a call for many names answers.
-fn many_as(found: Many) -> usize
-    ensures { λ r. ⌜ r ≡ manyNumber found ⌝ }
-{
-    match found {
-        Many::Answered(_) => 0,
-        Many::BadResolver => lent::BAD_RESOLVER,
-    }
-}
-
-// The names of a tag, all by one test of the resolver: `lookup::resolve_all_in`. Name k is the tag's bytes from `from[k]` up
-// to `to[k]`, and the first `elements` of them want the default. What `mz_resolve` would answer for it goes to `kinds[k]`,
-// and the bounds to `begins[k]` and `ends[k]`. 0, 20, 99.
-#[no_mangle]
-pub extern "C" fn mz_resolve_all<'t, 'n>(
-    text: &'t Text,
-    starts: &'t Numbers,
-    plens: &'t Numbers,
-    vlens: &'t Numbers,
-    levels: &'t Levels,
-    head: &'t [usize],
-    tag: &'n [u8],
-    from: &'n [usize],
-    to: &'n [usize],
-    elements: usize,
-    kinds: &mut [usize],
-    begins: &mut [usize],
-    ends: &mut [usize],
-) -> usize
-    ensures { λ r. ⌜ names r (now (kinds .exit)) (now (begins .exit)) (now (ends .exit)) ≡ resolveAllIn (now (text .entry)) (now (starts .entry)) (now (plens .entry)) (now (vlens .entry)) (now (levels .entry)) (now (head .entry)) (now (tag .entry)) (now (from .entry)) (now (to .entry)) elements (now (kinds .entry)) (now (begins .entry)) (now (ends .entry)) ⌝ }
-{
-    let others = alike(from, to, kinds, begins, ends);
-    let h = lent::head_in(text, starts, plens, vlens, levels, head, others);
-    if h.refusal != 0 {
-        return h.refusal;
-    }
-    let found = lookup::resolve_all_in(
-        text,
-        starts,
-        plens,
-        vlens,
-        levels,
-        h.used,
-        h.count,
-        h.level,
-        tag,
-        from,
-        to,
-        elements,
-        kinds,
-        begins,
-        ends,
-    );
-    many_as(found)
 }

@@ -1,9 +1,9 @@
--- `lookup_exports::alike` meets its contract: the tests are those of the definition.
+-- `by_names::alike` meets its contract: the tests are those of the definition.
 use lib.ListN.{length}
 use borrow.Author.Tests.{eq-eqb, ne-eqb}
-use Rattle.lookup_exports.specs.Names.{alikeOf}
-use Rattle.lookup_exports.proofs.alike.Statement.{statement}
-use Rattle.lookup_exports.proofs.alike.Tie as tie
+use Rattle.by_names.specs.Names.{alikeOf}
+use Rattle.by_names.proofs.alike.Statement.{statement}
+use Rattle.by_names.proofs.alike.Tie as tie
 
 returns : tie.Need-returns
 unfolding alikeOf

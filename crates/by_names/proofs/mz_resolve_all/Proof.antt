@@ -1,8 +1,8 @@
--- `lookup_exports::mz_resolve_all` meets its contract: a call comes back in two ways (proofs/Calls).
-use Rattle.lookup_exports.proofs.Calls.{names-refused, names-left}
+-- `by_names::mz_resolve_all` meets its contract: a call comes back in two ways (proofs/Calls).
+use Rattle.by_names.proofs.Calls.{names-refused, names-left}
 use borrow.Author.Needs.{needs}
-use Rattle.lookup_exports.proofs.mz_resolve_all.Statement.{statement}
-use Rattle.lookup_exports.proofs.mz_resolve_all.Tie as tie
+use Rattle.by_names.proofs.mz_resolve_all.Statement.{statement}
+use Rattle.by_names.proofs.mz_resolve_all.Tie as tie
 
 alike-requires : tie.Need-alike-requires
 alike-requires c κs = search needs

@@ -23,8 +23,8 @@ use Rattle.lookup.specs.declared.Resolved.{Resolved}
 use Rattle.lookup.specs.declared.Resolved.the-variants.{Bound, Unbound, Unknown, BadResolver}
 use Rattle.lookup.proofs.Written.{upto-length}
 use Rattle.lent.specs.Scope.{codeOf, detailOf}
 use Rattle.lookup_exports.specs.Numbers.{resolvedNumbers}
-use Rattle.lookup_exports.specs.Names.{Names, alikeOf, manyNumber, namesOf}
+use Rattle.by_names.specs.Names.{Names, alikeOf, manyNumber, namesOf}
 
 numbered : (f : Resolved) → (kindOf f ≡ codeOf (resolvedNumbers f)) × (beginOf f ∷ endOf f ∷ [] ≡ detailOf 2 (resolvedNumbers f))
 unfolding kindOf beginOf endOf codeOf detailOf resolvedNumbers

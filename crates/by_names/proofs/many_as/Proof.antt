@@ -1,8 +1,8 @@
--- `lookup_exports::many_as` meets its contract: each case has its own number.
+-- `by_names::many_as` meets its contract: each case has its own number.
 use borrow.Author.Needs.{needs}
-use Rattle.lookup_exports.specs.Names.{manyNumber}
-use Rattle.lookup_exports.proofs.many_as.Statement.{statement}
-use Rattle.lookup_exports.proofs.many_as.Tie as tie
+use Rattle.by_names.specs.Names.{manyNumber}
+use Rattle.by_names.proofs.many_as.Statement.{statement}
+use Rattle.by_names.proofs.many_as.Tie as tie
 
 enum-told : tie.Need-enum-told
 enum-told c = search needs
