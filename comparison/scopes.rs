@@ -270,20 +270,22 @@ impl<'t> Pair<'t> {
         listed: &[Shown],
         call: impl Fn(usize) -> Call,
     ) -> Result<(), String> {
-        let end = Wanted::new(0, &[]);
+        let end = |place| Wanted::new(0, &[0, 0, 0, 0, place]);
         let mut place = 0;
         for shown in listed {
             self.ask(&call(place), &shown.answer)?;
             place = shown.index + 1;
         }
         self.tally.listed += listed.len();
-        self.ask(&call(place), &end)?;
+        self.ask(&call(place), &end(place))?;
         let count = scopes::records(&self.theirs).len();
         let drawn = [(); 2].map(|()| self.lcg.below(count + 2));
         let places = [1, 2, count - 1, count, count + 1, RECORDS, usize::MAX];
         for place in places.into_iter().chain(drawn) {
-            let shown = listed.iter().find(|shown| shown.index >= place);
-            self.ask(&call(place), shown.map_or(&end, |shown| &shown.answer))?;
+            match listed.iter().find(|shown| shown.index >= place) {
+                Some(shown) => self.ask(&call(place), &shown.answer)?,
+                None => self.ask(&call(place), &end(place))?,
+            }
         }
         Ok(())
     }
@@ -512,11 +514,17 @@ fn call_of_each_kind() -> Vec<Call> {
     ]
 }
 
-/// A call that has to answer `code` and to write nothing.
+/// A call that has to answer `code` and to leave the resolver alone. With 20 a listing tells the place that
+/// was asked.
 fn hold_unwritten(scope: &Scope, call: &Call, code: usize, detail: usize) -> Result<(), String> {
     let mut ours = scope.clone();
     let mut numbers = vec![UNTOUCHED; detail];
     let got = call.ours(&mut ours, &mut numbers);
+    if let (20, Call::Binding(place) | Call::BindingOf(_, place)) = (got, call) {
+        if numbers != [0, 0, 0, 0, *place] {
+            return Err(format!("{}: ours 20 {numbers:?}", call.shown()));
+        }
+    }
     if got == code && ours == *scope {
         return Ok(());
     }

@@ -63,7 +63,7 @@ size_t mz_verdict(const uint8_t *name, size_t name_len, const uint8_t *value, si
 #define MZ_KEYS 256         /* elements of `starts` and of `ends` */
 #define MZ_STATE 3          /* elements of `state` */
 #define MZ_ANSWER 5         /* elements of `out` for each answer */
-#define MZ_NONE SIZE_MAX    /* instead of a number of answers: a table has a wrong length */
+#define MZ_NONE SIZE_MAX    /* instead of a number of answers: a table or `state` has a wrong length */
 
 /* The kinds of a place, `state[0]`. */
 #define MZ_DONE 0           /* reading has ended */
@@ -91,7 +91,8 @@ size_t mz_verdict(const uint8_t *name, size_t name_len, const uint8_t *value, si
  * `state` is the kind of the place, its position, and the number of recorded keys. A tag is opened by
  * { MZ_NEXT, where its attributes begin, 0 }, and each call leaves the state for the next one. Recorded
  * keys are bounds, `starts[i]` and `ends[i]`; places behind the number of them need not be set, and are
- * left alone. What stands in `out` behind the answers is left alone too.
+ * left alone, but for MZ_BAD_STATE, which sets both tables to zeros. What stands in `out` behind the
+ * answers is left alone too. With MZ_NONE nothing is read or written.
  */
 size_t mz_read_batch(const uint8_t *tag, size_t tag_len,
                      size_t *starts, size_t starts_len,
@@ -125,7 +126,8 @@ size_t mz_count_by_next(const uint8_t *tag, size_t tag_len, bool html, bool chec
 #define MZ_CHANGED
 #define MZ_READ const
 
-/* 0, or a refusal. `detail` is set to its numbers, and to 0 where it has fewer. */
+/* 0, or a refusal. `detail` is set to its numbers, and to 0 where it has fewer; the listings also set the
+ * place. */
 #define MZ_INVALID_XML_PREFIX_BIND 12   /* bounds of the value */
 #define MZ_INVALID_XMLNS_PREFIX_BIND 13 /* bounds of the value */
 #define MZ_INVALID_PREFIX_FOR_XML 14    /* bounds of the prefix */
@@ -147,7 +149,10 @@ size_t mz_add(MZ_RESOLVER(MZ_CHANGED), bool named,
               size_t *detail, size_t detail_len);
 
 /* One level more, with the declarations of a tag whose attributes begin at `at`. Bounds are those in the
- * tag. */
+ * tag. A declaration that is refused (12 to 16, 18, 19) ends the call: the level stays raised and the
+ * bindings before it stay, so that mz_pop undoes the whole push. MZ_TOO_DEEPLY_NESTED and
+ * MZ_BAD_RESOLVER change nothing. The first fault of the attributes themselves, as a value without
+ * quotes, ends reading with success: what comes behind it declares nothing. */
 size_t mz_push(MZ_RESOLVER(MZ_CHANGED), const uint8_t *tag, size_t tag_len, size_t at,
                size_t *detail, size_t detail_len);
 
@@ -175,8 +180,9 @@ size_t mz_resolve_all(MZ_RESOLVER(MZ_READ), const uint8_t *tag, size_t tag_len,
                       size_t *ends, size_t ends_len);
 
 /* The first binding shown from a place on, 0 at first: 0 the end; 1 a default, 2 a named one, with the
- * bounds of prefix and value in the text and the place that follows. mz_binding shows those that hold,
- * mz_binding_of those of a level. */
+ * bounds of prefix and value in the text. detail[4] is the place to go on from: behind the binding that
+ * is shown, and the place that was asked at the end and with MZ_BAD_RESOLVER, where the four bounds are
+ * 0. mz_binding shows those that hold, mz_binding_of those of a level. */
 size_t mz_binding(MZ_RESOLVER(MZ_READ), size_t place, size_t *detail, size_t detail_len);
 size_t mz_binding_of(MZ_RESOLVER(MZ_READ), uint16_t level, size_t place,
                      size_t *detail, size_t detail_len);

@@ -137,12 +137,19 @@ static void scopes(void) {
     hold("mz_binding", mz_binding(SCOPE, 0, listed, MZ_LISTED) == 2 && are(text, listed, "p") &&
                            are(text, listed + 2, "urn:p") && listed[4] == 3);
     hold("mz_binding_of", mz_binding_of(SCOPE, 1, 0, listed, MZ_LISTED) == 1 && are(text, listed + 2, "u") &&
-                              listed[4] == 4 && mz_binding_of(SCOPE, 1, 4, listed, MZ_LISTED) == 0);
+                              listed[4] == 4);
+    hold("the end of a listing", mz_binding_of(SCOPE, 1, 4, listed, MZ_LISTED) == 0 && listed[3] == 0 &&
+                                     listed[4] == 4);
+    hold("a place far behind", mz_binding(SCOPE, 2000, listed, MZ_LISTED) == 0 && listed[3] == 0 && listed[4] == 2000);
     hold("mz_set_level", mz_set_level(SCOPE, 500) == 0 && head[2] == 500 && head[1] == 4);
     hold("mz_pop", mz_pop(SCOPE) == 0 && head[2] == 499);
     hold("mz_set_level: down", mz_set_level(SCOPE, 0) == 0 && head[1] == 3 && head[0] == 79);
     text[MZ_TEXT - 1] = 1;
     hold("a resolver that is none", mz_pop(SCOPE) == MZ_BAD_RESOLVER);
+    hold("a listing of it", mz_binding(SCOPE, 3, listed, MZ_LISTED) == MZ_BAD_RESOLVER && listed[0] == 0 &&
+                                listed[4] == 3);
+    head[2] = 65536;
+    hold("a level that is none", mz_binding_of(SCOPE, 1, 5, listed, MZ_LISTED) == MZ_BAD_RESOLVER && listed[4] == 5);
     hold("a wrong length", mz_fresh(text, starts, prefix_lens, value_lens, levels, head, 3) == MZ_WRONG_LENGTH);
 }
 
