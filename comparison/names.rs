@@ -5,6 +5,9 @@
 //! alone: about a name that is none it is asked with `z` in place of each byte past ASCII, which
 //! keeps every position and is neither a colon nor a letter of `xmlns`.
 //!
+//! Values too, as `as_bool` reads them: every one of up to 5 bytes over the letters of `true`, `false`, `1`
+//! and `0`, then drawn ones that are nearly one of these.
+//!
 //! The verdict on a declaration has no counterpart in the crate. It is held against `verdict` below,
 //! a transcription of document 01's sentence.
 //!
@@ -17,21 +20,23 @@ mod cases;
 mod library;
 
 use cases::Lcg;
-use library::{mz_declares, mz_is_xml, mz_is_xmlns, mz_split, mz_verdict};
+use library::{mz_as_bool, mz_declares, mz_is_xml, mz_is_xmlns, mz_split, mz_verdict};
 use oracle::PrefixDeclaration;
 use oracle::scopes;
+use oracle::steps::as_bool;
 use oracle::text::shown;
 use std::process::ExitCode;
 
 const LETTERS: &[u8] = b"xmlns:";
+const VALUE_LETTERS: &[u8] = b"truefals01";
 const SEED: u64 = 42_003;
 
-/// How much is run: every name up to so many bytes, and so many drawn ones. The short part is for a tool
-/// that looks at each access to memory.
-type Extent = (u32, usize);
+/// How much is run: every name up to so many bytes, every value up to so many, and so many drawn ones of
+/// each. The short part is for a tool that looks at each access to memory.
+type Extent = (u32, u32, usize);
 
-const SHORT: Extent = (3, 1_000);
-const WHOLE: Extent = (6, 200_000);
+const SHORT: Extent = (3, 2, 1_000);
+const WHOLE: Extent = (6, 5, 200_000);
 
 const XML_URI: &[u8] = b"http://www.w3.org/XML/1998/namespace";
 const XMLNS_URI: &[u8] = b"http://www.w3.org/2000/xmlns/";
@@ -61,6 +66,11 @@ fn our_verdict(name: &[u8], value: &[u8]) -> usize {
     unsafe { mz_verdict(name.as_ptr(), name.len(), value.as_ptr(), value.len()) }
 }
 
+fn our_as_bool(value: &[u8]) -> usize {
+    // SAFETY: as for `mz_split`.
+    unsafe { mz_as_bool(value.as_ptr(), value.len()) }
+}
+
 // Document 01, "Verdict on a declaration": no for the prefix `xmlns`; for `xml` to another URI; for
 // another prefix to the xml or xmlns URI; for a named prefix with an empty value; for an empty prefix
 // or one with a colon. Else yes. `None` is the default declaration.
@@ -79,6 +89,8 @@ fn verdict(prefix: Option<&[u8]>, value: &[u8]) -> bool {
 #[derive(Default)]
 struct Tally {
     names: usize,
+    values: usize,
+    truths: usize,
     declarations: usize,
     answers: usize,
 }
@@ -102,12 +114,24 @@ impl Tally {
     }
 }
 
-fn compare(name: &[u8], tally: &mut Tally) -> Result<(), String> {
+// The bytes as text, for the crate.
+fn asked(bytes: &[u8]) -> String {
     let plain = |&b: &u8| if b.is_ascii() { char::from(b) } else { 'z' };
-    let asked = match std::str::from_utf8(name) {
+    match std::str::from_utf8(bytes) {
         Ok(text) => text.to_string(),
-        Err(_) => name.iter().map(plain).collect(),
-    };
+        Err(_) => bytes.iter().map(plain).collect(),
+    }
+}
+
+fn compare_value(value: &[u8], tally: &mut Tally) -> Result<(), String> {
+    let wanted = as_bool(&asked(value)).map_or(2, usize::from);
+    tally.values += 1;
+    tally.truths += usize::from(wanted < 2);
+    tally.hold("as_bool", value, our_as_bool(value), wanted)
+}
+
+fn compare(name: &[u8], tally: &mut Tally) -> Result<(), String> {
+    let asked = asked(name);
     tally.names += 1;
     let (prefix, _) = scopes::split(&asked);
     let colon = prefix.map_or(name.len(), str::len);
@@ -187,7 +211,32 @@ fn drawn(lcg: &mut Lcg) -> Vec<u8> {
     name
 }
 
-fn all((every_up_to, drawn_ones): Extent, tally: &mut Tally) -> Result<(), String> {
+// A value that says yes or no, with a byte changed, put in or taken out up to twice.
+fn drawn_value(lcg: &mut Lcg) -> Vec<u8> {
+    let mut value = lcg.pick::<[u8]>(&[b"true", b"false", b"1", b"0"]).to_vec();
+    for _ in 0..lcg.below(3) {
+        let byte = lcg.pick::<[u8]>(&[b" ", b"T", b"e", b"1", b"\0", b"\xff", b"\n"])[0];
+        let at = lcg.below(value.len() + 1);
+        match lcg.below(3) {
+            0 => value.insert(at, byte),
+            1 if at < value.len() => value[at] = byte,
+            _ if at < value.len() => drop(value.remove(at)),
+            _ => value.push(byte),
+        }
+    }
+    value
+}
+
+fn all((every_up_to, values_up_to, drawn_ones): Extent, tally: &mut Tally) -> Result<(), String> {
+    for len in 0..=values_up_to {
+        for value in cases::every(VALUE_LETTERS, len) {
+            compare_value(&value, tally)?;
+        }
+    }
+    eprintln!(
+        "names: every value up to {values_up_to} bytes agrees, {} of them",
+        tally.values
+    );
     for len in 0..=every_up_to {
         for name in cases::every(LETTERS, len) {
             compare(&name, tally)?;
@@ -200,6 +249,7 @@ fn all((every_up_to, drawn_ones): Extent, tally: &mut Tally) -> Result<(), Strin
     let mut lcg = Lcg::new(SEED);
     for _ in 0..drawn_ones {
         compare(&drawn(&mut lcg), tally)?;
+        compare_value(&drawn_value(&mut lcg), tally)?;
     }
     Ok(())
 }
@@ -218,8 +268,9 @@ fn main() -> ExitCode {
     match all(extent, &mut tally) {
         Ok(()) => {
             println!(
-                "names: {} names, {} of them declarations, {} answers compared, no difference",
-                tally.names, tally.declarations, tally.answers
+                "names: {} names, {} of them declarations, and {} values, {} of them yes or no, {} answers \
+                 compared, no difference",
+                tally.names, tally.declarations, tally.values, tally.truths, tally.answers
             );
             ExitCode::SUCCESS
         }

@@ -7,6 +7,11 @@
 //! crate adds what the tables have no room for, 20 from the state that is given. A drawn run of calls
 //! is compared up to the first of them.
 //!
+//! Names whose prefix is unknown: what the crate makes its refusal 11 of is what the library answers 2 for,
+//! with the bounds of the same prefix. Searches for `nil`: the answer, the place and the recorded keys that
+//! are left, key places that are not in use, and the resolver, which is as it was. 7, 20 and, where 257 keys
+//! are recorded, 6 are decided here.
+//!
 //! Not compared: numbers of the detail that an answer doesn't have, and a level above 65,535, which
 //! the crate can't hold.
 //!
@@ -27,14 +32,18 @@ mod due;
 mod lent;
 #[path = "../rust/src/library.rs"]
 mod library;
+#[path = "scopes/nil.rs"]
+mod nil;
 
 use cases::Lcg;
 use declarations::{PREFIXES, Tags, VALUES, XML_URI, XMLNS_URI};
 use drawn::{FILLING, MIXED, NAMES, Shape, change, drawn_call};
 use due::{RECORDS, Shown, TEXT, Wanted, listing, resolved_wanted};
 use lent::{BUILT_IN, BUILT_IN_TEXT, Call, DEEPEST, LIMIT, Scope, UNTOUCHED, WRONG_LENGTH, cut};
+use nil::{Cursor, INSTANCE, KEYS, Tag};
 use oracle::scopes;
-use oracle::{NamespaceResolver, QName};
+use oracle::steps::Reader;
+use oracle::{Namespace, NamespaceError, NamespaceResolver, QName, ResolveResult};
 use std::collections::BTreeSet;
 use std::process::ExitCode;
 
@@ -47,15 +56,26 @@ struct Tally {
     refusals: usize,
     added: usize,
     resolved: usize,
+    unknown: usize,
     listed: usize,
+    searches: usize,
+    yes: usize,
 }
 
 impl Tally {
     fn line(&self, what: &str) -> String {
         format!(
             "{what}: {} runs, {} calls compared ({} refused, {} by an added refusal), {} names \
-             resolved, {} bindings listed",
-            self.runs, self.calls, self.refusals, self.added, self.resolved, self.listed
+             resolved ({} of them refusal 11), {} bindings listed, {} searches for nil ({} of them a yes)",
+            self.runs,
+            self.calls,
+            self.refusals,
+            self.added,
+            self.resolved,
+            self.unknown,
+            self.listed,
+            self.searches,
+            self.yes
         )
     }
 
@@ -65,7 +85,10 @@ impl Tally {
         self.refusals += other.refusals;
         self.added += other.added;
         self.resolved += other.resolved;
+        self.unknown += other.unknown;
         self.listed += other.listed;
+        self.searches += other.searches;
+        self.yes += other.yes;
     }
 }
 
@@ -209,9 +232,64 @@ impl<'t> Pair<'t> {
             }
             let wanted = resolved_wanted(&self.theirs, &resolved);
             self.tally.resolved += 1;
+            self.tally.unknown += usize::from(is_refused(resolved, name, &wanted)?);
             self.ask(&Call::Resolve(name.to_string(), default), &wanted)?;
         }
         Ok(())
+    }
+
+    /// Searches in a tag, in each mode, behind the first answers if that is drawn: up to the end, and once
+    /// more.
+    fn hold_nil(&mut self, text: &str, position: usize) -> Result<(), String> {
+        for tag in Tag::readings(text) {
+            let mut theirs = Reader::open(text.as_bytes(), position, tag.html, tag.checks);
+            let mut ours = Cursor::opened(position);
+            for _ in 0..self.lcg.below(6).saturating_sub(3) {
+                theirs.step();
+                ours.step(tag);
+            }
+            while self.hold_search(tag, &mut ours, &mut theirs)? {}
+            self.hold_search(tag, &mut ours, &mut theirs)?;
+        }
+        self.hold_state()
+    }
+
+    /// One search of both. The result is the answer.
+    fn hold_search(
+        &mut self,
+        tag: Tag,
+        ours: &mut Cursor,
+        theirs: &mut Reader,
+    ) -> Result<bool, String> {
+        let answer = theirs
+            .has_nil(&self.theirs)
+            .ok_or("a tag that is no text")?;
+        let wanted = ours.gone_on(theirs);
+        self.hold_found(tag, ours, usize::from(answer), &wanted)?;
+        Ok(answer)
+    }
+
+    /// One search of the library, held against what is due.
+    fn hold_found(
+        &mut self,
+        tag: Tag,
+        ours: &mut Cursor,
+        code: usize,
+        wanted: &Cursor,
+    ) -> Result<(), String> {
+        self.tally.searches += 1;
+        self.tally.yes += usize::from(code == 1);
+        let before = ours.shown();
+        let got = ours.search(&mut self.ours, tag);
+        if got == code && ours == wanted {
+            return Ok(());
+        }
+        Err(self.error(&format!(
+            "has_nil {} from {before}: ours {got} leaving {}, wanted {code} leaving {}",
+            tag.shown(),
+            ours.shown(),
+            wanted.shown()
+        )))
     }
 
     /// All of them in one call, half of them as elements' names.
@@ -291,6 +369,26 @@ impl<'t> Pair<'t> {
     }
 }
 
+/// Whether the crate refuses what a name resolves to, with 11. It does so exactly where the library's answer
+/// is 2, and the text of its refusal is the part of the name that has the answer's bounds.
+fn is_refused(resolved: ResolveResult, name: &str, wanted: &Wanted) -> Result<bool, String> {
+    let due = match wanted.detail[..] {
+        [from, to] if wanted.code == 2 => Some(&name[from..to]),
+        _ => None,
+    };
+    let refused = match Option::<Namespace>::try_from(resolved) {
+        Err(NamespaceError::UnknownPrefix(prefix)) => Some(prefix),
+        _ => None,
+    };
+    if refused.as_deref() == due {
+        return Ok(due.is_some());
+    }
+    Err(format!(
+        "the crate's refusal of |{}| is {refused:?}, where the prefix is {due:?}",
+        cut(name)
+    ))
+}
+
 /// How much is run. The bounded part takes less than a minute; the short one is for a tool that looks at
 /// each access to memory.
 struct Extent {
@@ -299,6 +397,7 @@ struct Extent {
     runs: usize,
     filled: usize,
     bad: usize,
+    nils: usize,
 }
 
 const SHORT: Extent = Extent {
@@ -306,18 +405,21 @@ const SHORT: Extent = Extent {
     runs: 1,
     filled: 0,
     bad: 40,
+    nils: 6,
 };
 const BOUNDED: Extent = Extent {
     every_part: true,
     runs: 300,
     filled: 6,
     bad: 4_000,
+    nils: 400,
 };
 const WHOLE: Extent = Extent {
     every_part: true,
     runs: 6_000,
     filled: 80,
     bad: 60_000,
+    nils: 8_000,
 };
 
 /// The rows of document 01 that speak of a resolver, with the numbers they state.
@@ -535,6 +637,27 @@ fn hold_unwritten(scope: &Scope, call: &Call, code: usize, detail: usize) -> Res
     ))
 }
 
+/// A search that has to answer `code` and to write nothing: with an iterator that 7 would refuse, too.
+fn hold_search_unwritten(
+    scope: &Scope,
+    cursor: &Cursor,
+    code: usize,
+    tally: &mut Tally,
+) -> Result<(), String> {
+    let tag = Tag::readings("i:nil='1'")[0];
+    let (mut ours, mut left) = (scope.clone(), cursor.clone());
+    let got = left.search(&mut ours, tag);
+    tally.searches += 1;
+    if got == code && ours == *scope && left == *cursor {
+        return Ok(());
+    }
+    Err(format!(
+        "has_nil from {}: ours {got} leaving {}, wanted {code} and nothing written",
+        cursor.shown(),
+        left.shown()
+    ))
+}
+
 /// The head and the detail one shorter and one longer than they have to be. The resolver's five arrays are
 /// passed without a length.
 fn wrong_lengths(_: &Extent, tally: &mut Tally) -> Result<(), String> {
@@ -558,7 +681,88 @@ fn wrong_lengths(_: &Extent, tally: &mut Tally) -> Result<(), String> {
             tally.calls += 1;
         }
     }
+    for (array, longer) in (0..4).flat_map(|array| [(array, false), (array, true)]) {
+        for position in [0, 99] {
+            let (mut scope, mut cursor) = (good.clone(), Cursor::at([2, position], &[]));
+            match array {
+                0 => resize(&mut cursor.starts, longer),
+                1 => resize(&mut cursor.ends, longer),
+                2 => resize(&mut cursor.numbers, longer),
+                _ => resize(&mut scope.head, longer),
+            }
+            hold_search_unwritten(&scope, &cursor, WRONG_LENGTH, tally)?;
+        }
+    }
     Ok(())
+}
+
+/// Searches for `nil` in drawn tags, within drawn scopes; and from drawn states.
+fn nils(extent: &Extent, tally: &mut Tally) -> Result<(), String> {
+    nil_rows(tally)?;
+    let mut lcg = Lcg::new(SEED + 7);
+    for run in 0..extent.nils {
+        let mut pair = Pair::fresh(SEED + 200_000 + run as u64, tally)?;
+        for _ in 0..1 + lcg.below(3) {
+            pair.make_alone(Call::push(&nil::drawn_scope(&mut lcg)))?;
+            for _ in 0..8 {
+                let (tag, at) = nil::drawn_tag(&mut lcg, false);
+                pair.hold_nil(&tag, at)?;
+            }
+            let (tag, _) = nil::drawn_tag(&mut lcg, true);
+            hold_nil_anywhere(&mut pair, &tag, &mut lcg)?;
+            if lcg.chance(20) {
+                pair.make_alone(Call::Pop)?;
+            }
+        }
+        if run % 1_000 == 999 {
+            eprintln!("scopes: nil: {} searches so far", pair.tally.searches);
+        }
+    }
+    Ok(())
+}
+
+/// From any state: 7 where document 01 says so, else the crate's answer.
+fn hold_nil_anywhere(pair: &mut Pair, text: &str, lcg: &mut Lcg) -> Result<(), String> {
+    for tag in Tag::readings(text) {
+        let (place, keys) = nil::drawn_state(lcg, text);
+        let mut ours = Cursor::at(place.numbers(), &keys);
+        if nil::is_bad(text, place, &keys) {
+            pair.hold_found(tag, &mut ours, 7, &Cursor::zeroed())?;
+            continue;
+        }
+        let from = Reader::from_state(text.as_bytes(), place, tag.html, tag.checks, &keys);
+        let mut theirs = from.ok_or("a good state that the crate can't step from")?;
+        pair.hold_search(tag, &mut ours, &mut theirs)?;
+    }
+    pair.hold_state()
+}
+
+/// A full table of keys: refusal 6 counts as a no, and has ended the reading. With checks off it doesn't
+/// come. More keys than there are places, and kinds of places that there are not: 7.
+fn nil_rows(tally: &mut Tally) -> Result<(), String> {
+    let mut pair = Pair::fresh(SEED + 8, tally)?;
+    pair.make(Call::push(&format!(" xmlns:i='{INSTANCE}'")))?;
+    let mut text: String = (0..KEYS).map(|index| format!(" k{index}=''")).collect();
+    let before = text.len();
+    text.push_str(" i:nil='1' i:nil='true'");
+    pair.hold_nil(&text[..before], 0)?;
+    for tag in Tag::readings(&text) {
+        let mut ours = Cursor::opened(0);
+        let mut theirs = Reader::open(text.as_bytes(), 0, tag.html, tag.checks);
+        if !tag.checks {
+            pair.hold_search(tag, &mut ours, &mut theirs)?;
+            continue;
+        }
+        (0..KEYS).for_each(|_| drop(theirs.step()));
+        let mut wanted = ours.gone_on(&theirs);
+        wanted.numbers = vec![0, 0, KEYS];
+        pair.hold_found(tag, &mut ours, 0, &wanted)?;
+        for numbers in [[1, 0, KEYS + 1], [4, 0, 0], [usize::MAX, 0, usize::MAX]] {
+            ours.numbers = numbers.to_vec();
+            pair.hold_found(tag, &mut ours, 7, &Cursor::zeroed())?;
+        }
+    }
+    pair.hold_state()
 }
 
 /// Calls drawn on fresh resolvers, up to the first added refusal.
@@ -661,6 +865,9 @@ fn changed_by_hand(extent: &Extent, tally: &mut Tally) -> Result<(), String> {
 
 fn hold_bad(scope: &Scope, tally: &mut Tally) -> Result<(), String> {
     tally.runs += 1;
+    for position in [0, 99] {
+        hold_search_unwritten(scope, &Cursor::at([2, position], &[]), 20, tally)?;
+    }
     for call in call_of_each_kind() {
         tally.calls += 1;
         tally.refusals += 1;
@@ -679,13 +886,14 @@ fn hold_bad(scope: &Scope, tally: &mut Tally) -> Result<(), String> {
 
 type Part = fn(&Extent, &mut Tally) -> Result<(), String>;
 
-const PARTS: [(&str, Part); 9] = [
+const PARTS: [(&str, Part); 10] = [
     ("document 01's rows", stated_rows),
     ("limits", limits),
     ("depth", depth),
     ("text full", text_room),
     ("records full", record_room),
     ("wrong lengths", wrong_lengths),
+    ("nil", nils),
     ("drawn calls", drawn),
     ("filled tables", filled),
     ("changed by hand", changed_by_hand),

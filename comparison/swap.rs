@@ -16,7 +16,8 @@ const PIECES: [&str; 19] = [
     "=\"2\"", " a='1'", " b=x", " c",
 ];
 const PREFIXES: [&str; 8] = ["p", "q", "pé", "xml", "xmlns", "", ":", "a:b"];
-const URIS: [&str; 6] = [
+const URIS: [&str; 7] = [
+    "http://www.w3.org/2001/XMLSchema-instance",
     "u",
     "v",
     "",
@@ -28,6 +29,23 @@ const NAMES: [&str; 10] = [
     "a", "p:a", "q:a", "pé:a", "xml:a", "xmlns:a", ":a", "a:b:c", "z:a", "",
 ];
 const LEVELS: u16 = 7;
+/// The attributes of tags that are searched for `nil`; a number stands in place of `#`.
+const NILS: [&str; 12] = [
+    " p:nil='1'",
+    " q:nil=\"true\"",
+    " q:nil='true'",
+    " pé:nil='1'",
+    " p:nil='0'",
+    " nil='1'",
+    " z:nil='true'",
+    " p:nil=1",
+    " p:nil",
+    " k#='1'",
+    " k#='1'",
+    " k#='1'",
+];
+/// So many tags are searched after each call on a resolver.
+const SEARCHES: usize = 4;
 /// No tag here has more answers.
 const ANSWERS: usize = 200;
 
@@ -50,6 +68,13 @@ impl Drawn {
 
     fn tag(&mut self) -> String {
         (0..self.below(40)).map(|_| self.one_of(&PIECES)).collect()
+    }
+
+    /// A tag named `t` with many attributes that are `nil`, or nearly so.
+    fn nils(&mut self) -> String {
+        let attribute = |n: usize, one: &str| one.replace('#', &n.to_string());
+        let attributes = (0..self.below(40)).map(|n| attribute(n, self.one_of(&NILS)));
+        "t".to_string() + &attributes.collect::<String>()
     }
 
     /// A tag named `t`, mostly of declarations.
@@ -77,7 +102,7 @@ fn shown(answer: impl Debug) -> String {
 macro_rules! calls_on {
     ($name:ident) => {
         mod $name {
-            use super::{ANSWERS, Drawn, LEVELS, NAMES, PREFIXES, URIS, shown};
+            use super::{ANSWERS, Drawn, LEVELS, NAMES, PREFIXES, SEARCHES, URIS, shown};
             use $name::events::BytesStart;
             use $name::events::attributes::Attributes;
             use $name::name::{Namespace, NamespaceResolver, PrefixDeclaration, QName};
@@ -100,6 +125,9 @@ macro_rules! calls_on {
                     }
                     let answer = attributes.next();
                     ends += usize::from(answer.is_none());
+                    if let Some(Ok(attribute)) = &answer {
+                        answers.push(shown(attribute.as_bool()));
+                    }
                     answers.push(shown(answer));
                 }
                 answers
@@ -115,6 +143,9 @@ macro_rules! calls_on {
                 for _ in 0..calls {
                     told.push(change(&mut resolver, drawn));
                     tell(&resolver, &mut told);
+                    for _ in 0..SEARCHES {
+                        search(&resolver, drawn, &mut told);
+                    }
                 }
                 told
             }
@@ -131,6 +162,25 @@ macro_rules! calls_on {
                         shown(resolver.add(prefix, Namespace(drawn.one_of(&URIS))))
                     }
                     _ => shown(resolver.push(&BytesStart::from_content(drawn.declarations(), 1))),
+                }
+            }
+
+            /// Searches a tag for `nil`, and takes answers and turns checks in between.
+            fn search(resolver: &NamespaceResolver, drawn: &mut Drawn, told: &mut Vec<String>) {
+                let tag = drawn.nils();
+                let mut attributes = if drawn.is_one_in(3) {
+                    Attributes::html(&tag, 1)
+                } else {
+                    Attributes::new(&tag, 1)
+                };
+                for _ in 0..drawn.below(30) {
+                    match drawn.below(6) {
+                        0 => told.push(shown(attributes.has_nil(resolver))),
+                        1 => {
+                            attributes.with_checks(drawn.is_one_in(2));
+                        }
+                        _ => told.push(shown(attributes.next())),
+                    }
                 }
             }
 
@@ -182,7 +232,9 @@ fn main() {
         told += ours.len();
     }
     println!(
-        "swap: {answers} answers of {runs} tags and {told} of {} calls on resolvers, no difference",
-        resolvers * calls
+        "swap: {answers} answers of {runs} tags and {told} of {} calls on resolvers, with {} tags searched \
+         for nil, no difference",
+        resolvers * calls,
+        resolvers * calls * SEARCHES
     );
 }

@@ -60,6 +60,9 @@ size_t mz_verdict(const uint8_t *name, size_t name_len, const uint8_t *value, si
 
 /* ---- The attributes of a tag ---- */
 
+/* What a value says: 0 no (`0`, `false`), 1 yes (`1`, `true`), 2 neither. */
+size_t mz_as_bool(const uint8_t *value, size_t value_len);
+
 #define MZ_KEYS 256         /* elements of `starts` and of `ends` */
 #define MZ_STATE 3          /* elements of `state` */
 #define MZ_ANSWER 5         /* elements of `out` for each answer */
@@ -186,6 +189,18 @@ size_t mz_resolve_all(MZ_RESOLVER(MZ_READ), const uint8_t *tag, size_t tag_len,
 size_t mz_binding(MZ_RESOLVER(MZ_READ), size_t place, size_t *detail, size_t detail_len);
 size_t mz_binding_of(MZ_RESOLVER(MZ_READ), uint16_t level, size_t place,
                      size_t *detail, size_t detail_len);
+
+/*
+ * Whether one of the attributes that are left of a tag is `nil` in the namespace of XML Schema instances,
+ * with a yes for its value: 0 no, 1 yes. The tag is lent as to mz_read_batch, and reading goes on behind
+ * the attribute that was a yes, or has ended. What is wrong in the tag counts as a no. MZ_BAD_RESOLVER
+ * leaves the tag's three arrays as they are; MZ_BAD_STATE leaves them as mz_read_batch does.
+ */
+size_t mz_has_nil(MZ_RESOLVER(MZ_READ), const uint8_t *tag, size_t tag_len,
+                  size_t *key_starts, size_t key_starts_len,
+                  size_t *key_ends, size_t key_ends_len,
+                  size_t *state, size_t state_len,
+                  bool html, bool checks);
 
 #ifdef __cplusplus
 }

@@ -88,6 +88,8 @@ static void attributes(void) {
     hold("mz_read_batch: a wrong length", mz_read_batch(BYTES(tag), starts, MZ_KEYS - 1, ends, MZ_KEYS, state,
                                                         MZ_STATE, false, true, out, COUNT(out)) == MZ_NONE);
     hold("mz_count_by_next", mz_count_by_next(BYTES(tag), false, true) == COUNT(wanted));
+    hold("mz_as_bool", mz_as_bool(BYTES("false")) == 0 && mz_as_bool(BYTES("1")) == 1 &&
+                           mz_as_bool(BYTES("True")) == 2);
 }
 
 static uint8_t text[MZ_TEXT];
@@ -119,6 +121,27 @@ static void all_names(size_t *d) {
                                                           begins, 7, ends, 6) == MZ_WRONG_LENGTH);
 }
 
+/* A tag that says yes once: the iterator is left behind that attribute, then done. */
+static void nil(void) {
+    static size_t keys[2][MZ_KEYS];
+    const char *tag = "a i:nil='0' nil='1' j:nil='true' i:x='1' i:nil='1'";
+    size_t state[MZ_STATE] = {MZ_NEXT, 1, 0}, d[MZ_DETAIL];
+    const char *scope = "xmlns:i='http://www.w3.org/2001/XMLSchema-instance' "
+                        "xmlns:j='http://www.w3.org/2001/XMLSchema-instance'";
+    hold("mz_push: for nil", mz_push(SCOPE, BYTES(scope), 0, d, MZ_DETAIL) == 0);
+#define HAS_NIL(n, s) mz_has_nil(SCOPE, BYTES(tag), keys[0], n, keys[1], MZ_KEYS, s, MZ_STATE, false, true)
+    hold("mz_has_nil: yes", HAS_NIL(MZ_KEYS, state) == 1 && state[0] == MZ_NEXT && state[1] == 32 && state[2] == 3);
+    hold("mz_has_nil: no", HAS_NIL(MZ_KEYS, state) == 0 && state[2] == 4 && keys[0][3] == 33 && keys[1][3] == 36);
+    size_t bad[MZ_STATE] = {MZ_SKIP_VALUE, 99, 0};
+    hold("mz_has_nil: a wrong length", HAS_NIL(MZ_KEYS - 1, bad) == MZ_WRONG_LENGTH && bad[1] == 99);
+    head[0]++;
+    hold("mz_has_nil: no resolver", HAS_NIL(MZ_KEYS, bad) == MZ_BAD_RESOLVER && bad[1] == 99 && keys[0][3] == 33);
+    head[0]--;
+    hold("mz_has_nil: a bad state", HAS_NIL(MZ_KEYS, bad) == MZ_BAD_STATE && bad[0] == MZ_DONE && keys[0][3] == 0);
+#undef HAS_NIL
+    hold("mz_pop: after nil", mz_pop(SCOPE) == 0);
+}
+
 static void scopes(void) {
     size_t d[MZ_DETAIL], listed[MZ_LISTED];
     memset(text, 0x5a, sizeof text);
@@ -134,6 +157,7 @@ static void scopes(void) {
     hold("mz_resolve: unbound", mz_resolve(SCOPE, BYTES("x"), false, d, MZ_DETAIL) == 0);
     hold("mz_resolve: unknown", mz_resolve(SCOPE, BYTES("qq:x"), true, d, MZ_DETAIL) == 2 && d[0] == 0 && d[1] == 2);
     all_names(d);
+    nil();
     hold("mz_binding", mz_binding(SCOPE, 0, listed, MZ_LISTED) == 2 && are(text, listed, "p") &&
                            are(text, listed + 2, "urn:p") && listed[4] == 3);
     hold("mz_binding_of", mz_binding_of(SCOPE, 1, 0, listed, MZ_LISTED) == 1 && are(text, listed + 2, "u") &&
@@ -163,6 +187,7 @@ static void empty_and_null(void) {
     hold("null: mz_verdict", mz_verdict(NONE, NONE) == 2 && mz_verdict(BYTES("xmlns"), NONE) == 1);
     hold("null: a tag", mz_read_batch(NONE, key_starts, MZ_KEYS, key_ends, MZ_KEYS, state, MZ_STATE, false, true,
                                       NONE) == 0 && mz_count_by_next(NONE, false, true) == 0);
+    hold("null: mz_as_bool", mz_as_bool(NONE) == 2);
     hold("null: tables", mz_read_batch(NONE, NONE, NONE, NONE, false, true, NONE) == MZ_NONE);
     hold("null: mz_fresh", mz_fresh(text, starts, prefix_lens, value_lens, levels, NONE) == MZ_WRONG_LENGTH &&
                                mz_fresh(SCOPE) == 0);
@@ -178,6 +203,10 @@ static void empty_and_null(void) {
     hold("null: listings", mz_binding(SCOPE, 0, NONE) == MZ_WRONG_LENGTH &&
                                mz_binding_of(SCOPE, 0, 0, NONE) == MZ_WRONG_LENGTH &&
                                mz_binding(SCOPE, 0, listed, MZ_LISTED) == 0);
+    state[0] = MZ_NEXT;
+    hold("null: mz_has_nil", mz_has_nil(SCOPE, NONE, key_starts, MZ_KEYS, key_ends, MZ_KEYS, state, MZ_STATE, false,
+                                        true) == 0 &&
+                                 mz_has_nil(SCOPE, NONE, NONE, NONE, NONE, false, true) == MZ_WRONG_LENGTH);
     hold("null: a head", mz_pop(text, starts, prefix_lens, value_lens, levels, NONE) == MZ_WRONG_LENGTH &&
                              mz_set_level(text, starts, prefix_lens, value_lens, levels, NONE, 1) == MZ_WRONG_LENGTH);
 }

@@ -213,6 +213,31 @@ fn resolve_all(
     )
 }
 
+/// The library's search for `nil` in a tag, with an iterator in three arrays: starts and ends of recorded
+/// keys, and its numbers.
+pub fn has_nil(
+    scope: &mut Scope,
+    tag: &str,
+    [starts, ends, numbers]: [&mut Vec<usize>; 3],
+    html: bool,
+    checks: bool,
+) -> usize {
+    call!(
+        mz_has_nil,
+        scope,
+        tag.as_ptr(),
+        tag.len(),
+        starts.as_mut_ptr(),
+        starts.len(),
+        ends.as_mut_ptr(),
+        ends.len(),
+        numbers.as_mut_ptr(),
+        numbers.len(),
+        html,
+        checks
+    )
+}
+
 /// A text as it is shown: a long one with its middle left out.
 pub fn cut(text: &str) -> String {
     let bytes = text.as_bytes();

@@ -190,6 +190,17 @@ impl<'t> Reader<'t> {
         self.state.next(self.tag).map(Answer::of)
     }
 
+    /// `Attributes::has_nil` from where the reader stands. `None` where the tag is no text. From a place
+    /// off a boundary, or with a key off one, the crate panics.
+    pub fn has_nil(&mut self, resolver: &NamespaceResolver) -> Option<bool> {
+        let tag = std::str::from_utf8(self.tag).ok()?;
+        let mut attributes = Attributes::wrap(tag, 0, false);
+        attributes.state = self.state.clone();
+        let answer = attributes.has_nil(resolver);
+        self.state = attributes.state;
+        Some(answer)
+    }
+
     pub const fn place(&self) -> Place {
         Place::of(self.state.state)
     }

@@ -128,6 +128,13 @@ pub fn verdict(name: &str, value: &str) -> usize {
     unsafe { library::mz_verdict(name.as_ptr(), name.len(), value.as_ptr(), value.len()) }
 }
 
+/// 0 no, 1 yes, 2 neither.
+#[inline]
+pub fn as_bool(value: &str) -> usize {
+    // SAFETY: as for `mz_split`.
+    unsafe { library::mz_as_bool(value.as_ptr(), value.len()) }
+}
+
 /// The memory in which a tag is read: the places of the keys that were met, the place of reading, and
 /// the answers that were read ahead.
 ///
@@ -514,6 +521,37 @@ impl Memory {
         let (to, len) = (detail.as_mut_ptr(), detail.len());
         let answer = call!(mz_binding_of, self.as_ptr(), level, place, to, len);
         (answer, detail)
+    }
+
+    /// 0 no, 1 yes: whether an attribute of a tag from here on is a true `nil`. Nothing that was read
+    /// ahead is left: the next answer is that after the attribute.
+    pub(crate) fn has_nil(
+        &self,
+        tag: &[u8],
+        tables: &mut Tables,
+        html: bool,
+        checks: bool,
+    ) -> usize {
+        tables.filled = 0;
+        let (tag, tag_len) = (tag.as_ptr(), tag.len());
+        // as in `Tables::read`, of the keys the library looks at those that it has counted
+        let starts: *mut usize = tables.starts.as_mut_ptr().cast();
+        let ends: *mut usize = tables.ends.as_mut_ptr().cast();
+        let state = &mut tables.state;
+        call!(
+            mz_has_nil,
+            self.as_ptr(),
+            tag,
+            tag_len,
+            starts,
+            KEYS,
+            ends,
+            KEYS,
+            state.as_mut_ptr(),
+            state.len(),
+            html,
+            checks
+        )
     }
 }
 

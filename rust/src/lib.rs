@@ -14,9 +14,10 @@
 //! assert_eq!(keys, [Ok("id"), Ok("offset")]);
 //! ```
 //!
-//! What is proved is the static library below: which attributes a tag has, where it is damaged, which
-//! namespace a name is in. What stands here hands it memory and turns its numbers into Rust's types; that
-//! is tested and not proved. Tables have fixed sizes, so a tag is read without allocating, and five
+//! What is proved is the static library below: which attributes a tag has, where it is damaged, what a
+//! value says, which namespace a name is in, whether an element is nil. No rule stands here a second time:
+//! this crate hands the library memory and turns its numbers into Rust's types, an unknown prefix into an
+//! error where that is asked for; that is tested and not proved. Tables have fixed sizes, so a tag is read without allocating, and five
 //! refusals that quick-xml does not have say when a table is full or is none of the library's
 //! ([`AttrError`](events::attributes::AttrError), [`NamespaceError`](name::NamespaceError)).
 //!

@@ -21,6 +21,7 @@ unsafe extern "C" {
         value_len: usize,
     ) -> usize;
 
+    pub fn mz_as_bool(value: *const u8, value_len: usize) -> usize;
     #[allow(clippy::too_many_arguments)]
     pub fn mz_read_batch(
         tag: *const u8,
@@ -73,4 +74,7 @@ on_a_resolver! { const:
         begins: *mut usize, begins_len: usize, ends: *mut usize, ends_len: usize);
     mz_binding(place: usize, detail: *mut usize, detail_len: usize);
     mz_binding_of(level: u16, place: usize, detail: *mut usize, detail_len: usize);
+    mz_has_nil(tag: *const u8, tag_len: usize, key_starts: *mut usize, key_starts_len: usize,
+        key_ends: *mut usize, key_ends_len: usize, state: *mut usize, state_len: usize, html: bool,
+        checks: bool);
 }

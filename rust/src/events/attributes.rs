@@ -1,7 +1,7 @@
 //! The attributes of a tag, one after another.
 
-use crate::ffi::{Answer, BATCH};
-use crate::name::{Holder, NamespaceResolver, QName, ResolveResult};
+use crate::ffi::{self, Answer, BATCH, Memory};
+use crate::name::{Holder, NamespaceResolver, QName};
 use std::borrow::{BorrowMut, Cow};
 use std::error::Error;
 use std::fmt::{self, Debug, Display, Formatter};
@@ -9,9 +9,6 @@ use std::iter::FusedIterator;
 use std::ops::Range;
 
 pub use crate::ffi::Tables;
-
-/// The namespace of `xsi:nil`.
-const XML_SCHEMA_INSTANCE: &str = "http://www.w3.org/2001/XMLSchema-instance";
 
 /// An attribute: its key, and its value as it stands in the tag.
 #[derive(Clone, Debug, Eq, PartialEq)]
@@ -26,9 +23,9 @@ impl Attribute<'_> {
     /// `1` and `true` are a yes, `0` and `false` a no, and nothing else is either.
     #[inline]
     pub fn as_bool(&self) -> Option<bool> {
-        match &*self.value {
-            "1" | "true" => Some(true),
-            "0" | "false" => Some(false),
+        match ffi::as_bool(&self.value) {
+            0 => Some(false),
+            1 => Some(true),
             _ => None,
         }
     }
@@ -249,6 +246,22 @@ impl<T: BorrowMut<Tables>> IterState<T> {
         self.taken += 1;
         Some(answered(answer))
     }
+
+    /// The search goes on behind the answers that were taken: those read ahead are not among them.
+    fn has_nil(&mut self, tag: &[u8], memory: &Memory) -> bool {
+        let tables = self.tables.borrow_mut();
+        if self.taken < tables.filled() {
+            tables.read_again(tag, self.html, self.check_duplicates, self.taken);
+        }
+        let answer = memory.has_nil(tag, tables, self.html, self.check_duplicates);
+        (self.taken, self.ended) = (0, false);
+        match answer {
+            0 => false,
+            1 => true,
+            // 7, 20 and 99: only the library writes the state and a resolver's memory
+            _ => unreachable!("the library answered {answer} on memory of its own"),
+        }
+    }
 }
 
 /// The library's numbers for an answer: a refusal's own number, or the way an attribute is written.
@@ -366,17 +379,7 @@ impl<T: BorrowMut<Tables>> Attributes<'_, T> {
     /// Whether one of the attributes that are left is `nil` in the namespace of XML Schema instances, with
     /// a yes for its value. What is wrong in the tag counts as a no. Reading stops after a yes.
     pub fn has_nil<M: Holder>(&mut self, resolver: &NamespaceResolver<M>) -> bool {
-        self.any(|attribute| {
-            // names are resolved last, since that costs the most and changes nothing
-            attribute.is_ok_and(|attribute| {
-                attribute.as_bool() == Some(true)
-                    && attribute.key.local_name().into_inner() == "nil"
-                    && matches!(
-                        resolver.resolve_attribute(attribute.key).0,
-                        ResolveResult::Bound(namespace) if namespace.0 == XML_SCHEMA_INSTANCE
-                    )
-            })
-        })
+        self.state.has_nil(self.buf.as_bytes(), resolver.memory())
     }
 }
 

@@ -244,6 +244,11 @@ impl<M: Holder> NamespaceResolver<M> {
         self.resolved(prefix.map_or("", |prefix| prefix.with_colon), use_default)
     }
 
+    /// What the library reads it in.
+    pub(crate) fn memory(&self) -> &Memory {
+        self.memory.borrow()
+    }
+
     fn resolved(&self, name: &str, use_default: bool) -> ResolveResult<'_> {
         let memory = self.memory.borrow();
         resolved(memory, name, memory.resolve(name, use_default))
