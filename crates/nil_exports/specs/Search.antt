@@ -7,8 +7,8 @@ use lib.Dec.{eqb, leb}
 use Rattle.scan.specs.First.{pick}
 use Rattle.keys.specs.Keys.{capacity}
 use Rattle.attributes.specs.declared.Place.{Place}
-use Rattle.attributes.specs.declared.Truth.{Truth}
-use Rattle.attributes.specs.declared.Truth.the-variants as Says
+use Rattle.parts.specs.declared.Truth.{Truth}
+use Rattle.parts.specs.declared.Truth.the-variants as Says
 use Rattle.push.specs.Push.{DEEPEST}
 use Rattle.nil.specs.declared.Nil.{Nil}
 use Rattle.nil.specs.declared.Nil.the-variants.{Yes, No, BadState, BadResolver}

@@ -2,14 +2,14 @@
 // Each function hands what it is lent on to the crate that has the rule, and answers by a number; none asks anything of
 // its caller.
 use attributes::Place;
-use attributes::Truth;
+use parts::Truth;
 use nil::Nil;
 use table::Levels;
 use table::Numbers;
 use table::Text;
 ghost use mathlib.Core.Path.{_≡_};
 ghost use lib.ListN.{length};
-ghost use Rattle.attributes.specs.Parts.{truthOf};
+ghost use Rattle.parts.specs.Parts.{truthOf};
 ghost use Rattle.nil_exports.specs.Search.{truthNumber, nilNumber, leftBy, keysFit, searched, hasNilIn};
 
 // The number of what a value says.
@@ -23,12 +23,12 @@ fn truth_number(truth: Truth) -> usize
     }
 }
 
-// What a value says: `attributes::as_bool`. 0 a no, 1 a yes, 2 neither.
+// What a value says: `parts::as_bool`. 0 a no, 1 a yes, 2 neither.
 #[no_mangle]
 pub extern "C" fn mz_as_bool(value: &[u8]) -> usize
     ensures { λ r. ⌜ r ≡ truthNumber (truthOf (now (value .entry))) ⌝ }
 {
-    truth_number(attributes::as_bool(value))
+    truth_number(parts::as_bool(value))
 }
 
 // Whether the tables of recorded keys and an iterator's three numbers have their lengths.
