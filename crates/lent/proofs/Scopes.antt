@@ -155,6 +155,16 @@ module _ (others : Bool) (text starts plens vlens levels head : List ℕ) (h : H
   pub head-four : fit ≡ true → length head ≡ 4
   head-four e = head-of-fit text starts plens vlens levels head (both (fitsOf text starts plens vlens levels head) others e .0)
 
+  pub arrays-of : fit ≡ true → (length text ≡ TEXT) × (length starts ≡ RECORDS) × (length plens ≡ RECORDS) × (length vlens ≡ RECORDS) × (length levels ≡ RECORDS)
+  unfolding fitsOf
+  arrays-of e =
+      let t = both (eqb (length text) TEXT) _ (both (fitsOf text starts plens vlens levels head) others e .0) in
+      let s = both (eqb (length starts) RECORDS) _ (t .1) in
+      let p = both (eqb (length plens) RECORDS) _ (s .1) in
+      let v = both (eqb (length vlens) RECORDS) _ (p .1) in
+      let l = both (eqb (length levels) RECORDS) _ (v .1) in
+      (eqb-true (length text) TEXT (t .0), eqb-true (length starts) RECORDS (s .0), eqb-true (length plens) RECORDS (p .0), eqb-true (length vlens) RECORDS (v .0), eqb-true (length levels) RECORDS (l .0))
+
   pub resolver-read : h .refusal ≡ 0 → tables text starts plens vlens levels (h .used) (h .count) (h .level) (h .limit) ≡ resolverIn text starts plens vlens levels head
   unfolding resolverIn
   resolver-read z =

@@ -5,8 +5,11 @@ ghost use mathlib.Core.List.{[], _∷_};
 ghost use lib.ListN.{length};
 ghost use Rattle.table.specs.Changes.{numbersOf};
 ghost use Rattle.lent.specs.Scope.{fitsOf, codeOf, asked, askedOf, headed, headIn, refusedOf, headLeft};
+use table::Levels;
 use table::NamespaceResolver;
+use table::Numbers;
 use table::Outcome;
+use table::Text;
 
 // The answer of a call on a resolver where a lent array has another length than it has to have.
 pub const WRONG: usize = 99;
@@ -25,8 +28,8 @@ pub struct Head {
     pub limit: usize,
 }
 
-// Whether the arrays of a resolver have their lengths.
-pub fn fits<'a>(
+// Whether the arrays of a resolver, as slices, have their lengths.
+fn lengths<'a>(
     text: &'a [u8],
     starts: &'a [usize],
     plens: &'a [usize],
@@ -52,6 +55,21 @@ pub fn fits<'a>(
         return false;
     }
     head.len() == 4
+}
+
+// Whether the arrays of a resolver have their lengths. Their types say it of all but the head; the prover does not read it off
+// a reference, and so it is tested.
+pub fn fits<'a>(
+    text: &'a Text,
+    starts: &'a Numbers,
+    plens: &'a Numbers,
+    vlens: &'a Numbers,
+    levels: &'a Levels,
+    head: &'a [usize],
+) -> bool
+    ensures { λ r. ⌜ r ≡ fitsOf (now (text .entry)) (now (starts .entry)) (now (plens .entry)) (now (vlens .entry)) (now (levels .entry)) (now (head .entry)) ⌝ }
+{
+    lengths(text, starts, plens, vlens, levels, head)
 }
 
 // Writes the four numbers of a head.
@@ -85,11 +103,11 @@ fn refusing(refusal: usize) -> Head
 
 // Whether a call can go on, and with which numbers. `others` is whether all else that the call is lent has its length.
 pub fn head_in<'a>(
-    text: &'a [u8],
-    starts: &'a [usize],
-    plens: &'a [usize],
-    vlens: &'a [usize],
-    levels: &'a [u16],
+    text: &'a Text,
+    starts: &'a Numbers,
+    plens: &'a Numbers,
+    vlens: &'a Numbers,
+    levels: &'a Levels,
     head: &'a [usize],
     others: bool,
 ) -> Head

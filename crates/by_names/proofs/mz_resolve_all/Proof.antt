@@ -1,4 +1,5 @@
 -- `by_names::mz_resolve_all` meets its contract: a call comes back in two ways (proofs/Calls).
+use Rattle.lent.proofs.Scopes.{fit-of-good, arrays-of}
 use Rattle.by_names.proofs.Calls.{names-refused, names-left}
 use borrow.Author.Needs.{needs}
 use Rattle.by_names.proofs.mz_resolve_all.Statement.{statement}
@@ -21,11 +22,13 @@ same-length-3 c = search needs
 
 returns : tie.Need-returns
 returns c =
-    let a = c .before .before .before .before .before .before .before .before .before .before .before .before .before .before .before .before .before .before .before .args in
-    names-refused (c .before .before .before .before .before .before .before .before .alike .result) (a .text .now) (a .starts .now) (a .plens .now) (a .vlens .now) (a .levels .now) (a .head .now) (c .before .before .head-in .result) (c .before .before .head-in .ensures) (a .tag .now) (a .from .now) (a .to .now) (a .elements) (a .kinds .now) (a .begins .now) (a .ends .now) (c .before .before .before .before .before .before .before .before .alike .ensures) (c .if1 .taken)
+    let a = c .before .before .before .before .before .before .before .before .before .before .before .before .before .before .args in
+    names-refused (c .before .before .before .alike .result) (a .text .now) (a .starts .now) (a .plens .now) (a .vlens .now) (a .levels .now) (a .head .now) (c .before .before .head-in .result) (c .before .before .head-in .ensures) (a .tag .now) (a .from .now) (a .to .now) (a .elements) (a .kinds .now) (a .begins .now) (a .ends .now) (c .before .before .before .alike .ensures) (c .if1 .taken)
 
 resolve-all-in-requires : tie.Need-resolve-all-in-requires
-resolve-all-in-requires c κs = search needs
+resolve-all-in-requires c κs =
+    let a = c .before .before .before .before .before .before .before .before .before .before .before .before .before .before .before .before .before .args in
+    arrays-of (c .before .before .before .before .before .before .alike .result) (a .text .now) (a .starts .now) (a .plens .now) (a .vlens .now) (a .levels .now) (a .head .now) (c .before .before .before .before .before .head-in .result) (c .before .before .before .before .before .head-in .ensures) (fit-of-good (c .before .before .before .before .before .before .alike .result) (a .text .now) (a .starts .now) (a .plens .now) (a .vlens .now) (a .levels .now) (a .head .now) (c .before .before .before .before .before .head-in .result) (c .before .before .before .before .before .head-in .ensures) (c .before .before .before .if1 .left))
 
 many-as-requires : tie.Need-many-as-requires
 many-as-requires c κs = search needs
@@ -41,8 +44,8 @@ same-length-6 c = search needs
 
 returns-2 : tie.Need-returns-2
 returns-2 c =
-    let a = c .before .before .before .before .before .before .before .before .before .before .before .before .before .before .before .before .before .before .before .before .before .before .before .before .before .before .before .before .before .before .args in
-    names-left (c .before .before .before .before .before .before .before .before .before .before .before .before .before .before .before .before .before .before .before .alike .result) (a .text .now) (a .starts .now) (a .plens .now) (a .vlens .now) (a .levels .now) (a .head .now) (c .before .before .before .before .before .before .before .before .before .before .before .before .before .head-in .result) (c .before .before .before .before .before .before .before .before .before .before .before .before .before .head-in .ensures) (a .tag .now) (a .from .now) (a .to .now) (a .elements) (a .kinds .now) (a .begins .now) (a .ends .now) (c .before .before .before .before .before .before .before .before .before .before .before .before .before .before .before .before .before .before .before .alike .ensures) (c .before .before .before .before .before .before .before .before .before .before .before .if1 .left) _ _ _ _ (c .before .before .before .before .before .before .before .resolve-all-in .ensures (c .before .before .before .before .before .before .before .before .before .before .before .before .before .head-in .result .limit)) _ (c .many-as .ensures)
+    let a = c .before .before .before .before .before .before .before .before .before .before .before .before .before .before .before .before .before .before .before .before .before .before .before .before .before .args in
+    names-left (c .before .before .before .before .before .before .before .before .before .before .before .before .before .before .alike .result) (a .text .now) (a .starts .now) (a .plens .now) (a .vlens .now) (a .levels .now) (a .head .now) (c .before .before .before .before .before .before .before .before .before .before .before .before .before .head-in .result) (c .before .before .before .before .before .before .before .before .before .before .before .before .before .head-in .ensures) (a .tag .now) (a .from .now) (a .to .now) (a .elements) (a .kinds .now) (a .begins .now) (a .ends .now) (c .before .before .before .before .before .before .before .before .before .before .before .before .before .before .alike .ensures) (c .before .before .before .before .before .before .before .before .before .before .before .if1 .left) _ _ _ _ (c .before .before .before .before .before .before .before .resolve-all-in .ensures (c .before .before .before .before .before .before .before .before .before .before .before .before .before .head-in .result .limit)) _ (c .many-as .ensures)
 
 pub mz-resolve-all-spec : {M : Type 1} → statement M
 mz-resolve-all-spec =

@@ -6,7 +6,7 @@ use Rattle.lookup.specs.Listing.{bindingsAtOf}
 use Rattle.lookup.specs.declared.Listed.the-variants as Shown
 use Rattle.lookup_exports.specs.Numbers.{listedNumbers, listingNumbers}
 use Rattle.table.specs.declared.NamespaceResolver.{NamespaceResolver}
-use Rattle.lent.proofs.Scopes.{fit-of-deep, fit-of-good, detail-of, ask-refused, ask-left}
+use Rattle.lent.proofs.Scopes.{fit-of-deep, fit-of-good, arrays-of, detail-of, ask-refused, ask-left}
 use borrow.Author.Needs.{needs}
 use Rattle.lookup_exports.proofs.mz_binding_of.Statement.{statement}
 use Rattle.lookup_exports.proofs.mz_binding_of.Tie as tie
@@ -16,7 +16,7 @@ head-in-requires c κs = search needs
 
 list-refused-requires : tie.Need-list-refused-requires
 list-refused-requires c κs =
-    let a = c .before .before .before .before .before .before .before .before .before .before .before .args in
+    let a = c .before .before .before .before .before .before .args in
     λ z. detail-of (eqb (length (a .detail .now)) 5) (a .text .now) (a .starts .now) (a .plens .now) (a .vlens .now) (a .levels .now) (a .head .now) (c .before .before .before .head-in .result) (c .before .before .before .head-in .ensures) 5 (a .detail .now) refl (fit-of-deep (eqb (length (a .detail .now)) 5) (a .text .now) (a .starts .now) (a .plens .now) (a .vlens .now) (a .levels .now) (a .head .now) (c .before .before .before .head-in .result) (c .before .before .before .head-in .ensures) z)
 
 same-length : tie.Need-same-length
@@ -24,15 +24,17 @@ same-length c = search needs
 
 returns : tie.Need-returns
 returns c =
-    let a = c .before .before .before .before .before .before .before .before .before .before .before .before .before .before .args in
+    let a = c .before .before .before .before .before .before .before .before .before .args in
     ask-refused (eqb (length (a .detail .now)) 5) (a .text .now) (a .starts .now) (a .plens .now) (a .vlens .now) (a .levels .now) (a .head .now) (c .before .before .before .before .before .before .head-in .result) (c .before .before .before .before .before .before .head-in .ensures) 5 (a .detail .now) refl (listedNumbers Shown.BadResolver (a .place)) (λ (x : NamespaceResolver). listingNumbers (bindingsAtOf x (a .asked-level) (a .place))) (c .before .before .before .before .if1 .taken) _ _ (c .before .before .list-refused .ensures)
 
 bindings-of-in-requires : tie.Need-bindings-of-in-requires
-bindings-of-in-requires c κs = search needs
+bindings-of-in-requires c κs =
+    let a = c .before .before .before .before .before .args in
+    arrays-of (eqb (length (a .detail .now)) 5) (a .text .now) (a .starts .now) (a .plens .now) (a .vlens .now) (a .levels .now) (a .head .now) (c .before .before .head-in .result) (c .before .before .head-in .ensures) (fit-of-good (eqb (length (a .detail .now)) 5) (a .text .now) (a .starts .now) (a .plens .now) (a .vlens .now) (a .levels .now) (a .head .now) (c .before .before .head-in .result) (c .before .before .head-in .ensures) (c .if1 .left))
 
 list-requires : tie.Need-list-requires
 list-requires c κs =
-    let a = c .before .before .before .before .before .before .before .before .before .before .before .before .args in
+    let a = c .before .before .before .before .before .before .before .args in
     detail-of (eqb (length (a .detail .now)) 5) (a .text .now) (a .starts .now) (a .plens .now) (a .vlens .now) (a .levels .now) (a .head .now) (c .before .before .before .before .head-in .result) (c .before .before .before .before .head-in .ensures) 5 (a .detail .now) refl (fit-of-good (eqb (length (a .detail .now)) 5) (a .text .now) (a .starts .now) (a .plens .now) (a .vlens .now) (a .levels .now) (a .head .now) (c .before .before .before .before .head-in .result) (c .before .before .before .before .head-in .ensures) (c .before .before .if1 .left))
 
 same-length-2 : tie.Need-same-length-2
@@ -41,7 +43,7 @@ same-length-2 c = search needs
 returns-2 : tie.Need-returns-2
 unfolding listingNumbers
 returns-2 c =
-    let a = c .before .before .before .before .before .before .before .before .before .before .before .before .before .before .before .args in
+    let a = c .before .before .before .before .before .before .before .before .before .before .args in
     ask-left (eqb (length (a .detail .now)) 5) (a .text .now) (a .starts .now) (a .plens .now) (a .vlens .now) (a .levels .now) (a .head .now) (c .before .before .before .before .before .before .before .head-in .result) (c .before .before .before .before .before .before .before .head-in .ensures) 5 (a .detail .now) refl (listedNumbers Shown.BadResolver (a .place)) (λ (x : NamespaceResolver). listingNumbers (bindingsAtOf x (a .asked-level) (a .place))) (c .before .before .before .before .before .if1 .left) _ (ap listingNumbers (c .before .before .before .before .bindings-of-in .ensures (c .before .before .before .before .before .before .before .head-in .result .limit))) _ _ (c .before .before .list .ensures)
 
 pub mz-binding-of-spec : {M : Type 1} → statement M

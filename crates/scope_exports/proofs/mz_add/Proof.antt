@@ -7,7 +7,7 @@ use Rattle.resolver.specs.Scope.{addOf}
 use Rattle.scope_exports.specs.Calls.{declaredBy}
 use Rattle.table.specs.Table.{tables}
 use Rattle.table.specs.declared.NamespaceResolver.{NamespaceResolver}
-use Rattle.lent.proofs.Scopes.{fit-of-deep, detail-of, fit-of-good, head-four, change-refused, change-left}
+use Rattle.lent.proofs.Scopes.{fit-of-deep, detail-of, fit-of-good, arrays-of, head-four, change-refused, change-left}
 use borrow.Author.Needs.{needs}
 use Rattle.scope_exports.proofs.mz_add.Statement.{statement}
 use Rattle.scope_exports.proofs.mz_add.Tie as tie
@@ -17,7 +17,7 @@ head-in-requires c κs = search needs
 
 refused-requires : tie.Need-refused-requires
 refused-requires c κs =
-    let a = c .before .before .before .before .before .before .before .before .before .before .before .before .before .before .before .before .before .before .before .args in
+    let a = c .before .before .before .before .before .before .before .before .before .before .before .before .before .before .args in
     λ z. detail-of (eqb (length (a .detail .now)) 2) (a .text .now) (a .starts .now) (a .plens .now) (a .vlens .now) (a .levels .now) (a .head .now) (c .before .before .before .head-in .result) (c .before .before .before .head-in .ensures) 2 (a .detail .now) refl (fit-of-deep (eqb (length (a .detail .now)) 2) (a .text .now) (a .starts .now) (a .plens .now) (a .vlens .now) (a .levels .now) (a .head .now) (c .before .before .before .head-in .result) (c .before .before .before .head-in .ensures) z)
 
 same-length : tie.Need-same-length
@@ -28,18 +28,20 @@ same-length-2 c = search needs
 
 returns : tie.Need-returns
 returns c =
-    let a = c .before .before .before .before .before .before .before .before .before .before .before .before .before .before .before .before .before .before .before .before .before .before .args in
+    let a = c .before .before .before .before .before .before .before .before .before .before .before .before .before .before .before .before .before .args in
     change-refused (eqb (length (a .detail .now)) 2) (a .text .now) (a .starts .now) (a .plens .now) (a .vlens .now) (a .levels .now) (a .head .now) (c .before .before .before .before .before .before .head-in .result) (c .before .before .before .before .before .before .head-in .ensures) 2 (a .detail .now) refl (λ (x : NamespaceResolver). addOf x (declaredBy (a .named)) (a .prefix .now) (a .value .now)) (c .before .before .before .before .if1 .taken) _ _ (c .before .before .refused .ensures)
 
 declared-by-requires : tie.Need-declared-by-requires
 declared-by-requires c κs = search needs
 
 add-in-requires : tie.Need-add-in-requires
-add-in-requires c κs = search needs
+add-in-requires c κs =
+    let a = c .before .before .before .before .before .before .before .before .before .before .before .before .before .before .before .before .before .before .before .args in
+    arrays-of (eqb (length (a .detail .now)) 2) (a .text .now) (a .starts .now) (a .plens .now) (a .vlens .now) (a .levels .now) (a .head .now) (c .before .before .before .before .before .before .before .before .head-in .result) (c .before .before .before .before .before .before .before .before .head-in .ensures) (fit-of-good (eqb (length (a .detail .now)) 2) (a .text .now) (a .starts .now) (a .plens .now) (a .vlens .now) (a .levels .now) (a .head .now) (c .before .before .before .before .before .before .before .before .head-in .result) (c .before .before .before .before .before .before .before .before .head-in .ensures) (c .before .before .before .before .before .before .if1 .left))
 
 left-requires : tie.Need-left-requires
 left-requires c κs =
-    let a = c .before .before .before .before .before .before .before .before .before .before .before .before .before .before .before .before .before .before .before .before .before .before .before .before .before .before .before .args in
+    let a = c .before .before .before .before .before .before .before .before .before .before .before .before .before .before .before .before .before .before .before .before .before .before .args in
     let z = fit-of-good (eqb (length (a .detail .now)) 2) (a .text .now) (a .starts .now) (a .plens .now) (a .vlens .now) (a .levels .now) (a .head .now) (c .before .before .before .before .before .before .before .before .before .before .before .head-in .result) (c .before .before .before .before .before .before .before .before .before .before .before .head-in .ensures) (c .before .before .before .before .before .before .before .before .before .if1 .left) in
     (head-four (eqb (length (a .detail .now)) 2) (a .text .now) (a .starts .now) (a .plens .now) (a .vlens .now) (a .levels .now) (a .head .now) (c .before .before .before .before .before .before .before .before .before .before .before .head-in .result) (c .before .before .before .before .before .before .before .before .before .before .before .head-in .ensures) z, detail-of (eqb (length (a .detail .now)) 2) (a .text .now) (a .starts .now) (a .plens .now) (a .vlens .now) (a .levels .now) (a .head .now) (c .before .before .before .before .before .before .before .before .before .before .before .head-in .result) (c .before .before .before .before .before .before .before .before .before .before .before .head-in .ensures) 2 (a .detail .now) refl z)
 
@@ -51,7 +53,7 @@ same-length-4 c = search needs
 
 returns-2 : tie.Need-returns-2
 returns-2 c =
-    let a = c .before .before .before .before .before .before .before .before .before .before .before .before .before .before .before .before .before .before .before .before .before .before .before .before .before .before .before .before .before .before .before .before .args in
+    let a = c .before .before .before .before .before .before .before .before .before .before .before .before .before .before .before .before .before .before .before .before .before .before .before .before .before .before .before .args in
     let h = c .before .before .before .before .before .before .before .before .before .before .before .before .before .before .before .before .head-in .result in
     let x = tables (a .text .now) (a .starts .now) (a .plens .now) (a .vlens .now) (a .levels .now) (h .used) (h .count) (h .level) (h .limit) in
     change-left (eqb (length (a .detail .now)) 2) (a .text .now) (a .starts .now) (a .plens .now) (a .vlens .now) (a .levels .now) (a .head .now) (c .before .before .before .before .before .before .before .before .before .before .before .before .before .before .before .before .head-in .result) (c .before .before .before .before .before .before .before .before .before .before .before .before .before .before .before .before .head-in .ensures) 2 (a .detail .now) refl (λ (x : NamespaceResolver). addOf x (declaredBy (a .named)) (a .prefix .now) (a .value .now)) (c .before .before .before .before .before .before .before .before .before .before .before .before .before .before .if1 .left) (c .before .before .before .before .before .before .before .add-in .result) _ _ _ _ _ (c .before .before .before .before .before .before .before .add-in .ensures ∙ ap (λ (d : Declares). addOf x d (a .prefix .now) (a .value .now)) (c .before .before .before .before .before .before .before .before .declared-by .ensures)) _ _ _ (c .before .before .before .before .left .ensures .0) (c .before .before .before .before .left .ensures .1)

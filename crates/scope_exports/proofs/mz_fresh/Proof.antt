@@ -14,7 +14,7 @@ same-length c = search needs
 
 returns : tie.Need-returns
 returns c =
-    let a = c .before .before .before .before .before .before .before .before .before .before .before .before .before .before .args in
+    let a = c .before .before .before .before .before .before .before .before .before .args in
     fresh-refused (a .text .now) (a .starts .now) (a .plens .now) (a .vlens .now) (a .levels .now) (a .head .now) (c .before .fits2 .result) (c .before .fits2 .ensures) (c .if1 .taken)
 
 fresh-requires : tie.Need-fresh-requires
@@ -22,7 +22,7 @@ fresh-requires c κs = search needs
 
 left-head-requires : tie.Need-left-head-requires
 left-head-requires c κs =
-    let a = c .before .before .before .before .before .before .before .before .before .before .before .before .before .before .before .before .before .before .before .before .before .args in
+    let a = c .before .before .before .before .before .before .before .before .before .before .before .before .before .before .before .before .args in
     four-by-test true (a .text .now) (a .starts .now) (a .plens .now) (a .vlens .now) (a .levels .now) (a .head .now) (c .before .before .before .before .before .before .before .before .fits2 .result) (c .before .before .before .before .before .before .before .before .fits2 .ensures) (c .before .before .before .before .before .before .before .if1 .left)
 
 same-length-2 : tie.Need-same-length-2
@@ -30,7 +30,7 @@ same-length-2 c = search needs
 
 returns-2 : tie.Need-returns-2
 returns-2 c =
-    let a = c .before .before .before .before .before .before .before .before .before .before .before .before .before .before .before .before .before .before .before .before .before .before .before .before .args in
+    let a = c .before .before .before .before .before .before .before .before .before .before .before .before .before .before .before .before .before .before .before .args in
     fresh-left (a .text .now) (a .starts .now) (a .plens .now) (a .vlens .now) (a .levels .now) (a .head .now) (c .before .before .before .before .before .before .before .before .before .before .before .fits2 .result) (c .before .before .before .before .before .before .before .before .before .before .before .fits2 .ensures) (c .before .before .before .before .before .before .before .before .before .before .if1 .left) (c .before .before .before .before .before .before .before .before .before .fresh .result) (c .before .before .before .before .before .before .before .before .before .fresh .ensures) _ (c .before .before .left-head .ensures .0) _ (c .before .before .left-head .ensures .1)
 
 pub mz-fresh-spec : {M : Type 1} → statement M

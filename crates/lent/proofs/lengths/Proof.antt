@@ -1,9 +1,9 @@
--- `lent::fits` meets its contract: the tests are those of the definition.
+-- `lent::lengths` meets its contract: the tests are those of the definition.
 use lib.ListN.{length}
 use borrow.Author.Tests.{eq-eqb, ne-eqb}
 use Rattle.lent.specs.Scope.{fitsOf}
-use Rattle.lent.proofs.fits.Statement.{statement}
-use Rattle.lent.proofs.fits.Tie as tie
+use Rattle.lent.proofs.lengths.Statement.{statement}
+use Rattle.lent.proofs.lengths.Tie as tie
 
 returns : tie.Need-returns
 unfolding fitsOf
@@ -29,5 +29,5 @@ returns-6 : tie.Need-returns-6
 unfolding fitsOf
 returns-6 c = rw (eq-eqb (length (c .before .before .before .before .before .args .text .now)) 65536 (c .before .before .before .before .if1 .left), eq-eqb (length (c .before .before .before .before .before .args .starts .now)) 1026 (c .before .before .before .if2 .left), eq-eqb (length (c .before .before .before .before .before .args .plens .now)) 1026 (c .before .before .if3 .left), eq-eqb (length (c .before .before .before .before .before .args .vlens .now)) 1026 (c .before .if4 .left), eq-eqb (length (c .before .before .before .before .before .args .levels .now)) 1026 (c .if5 .left))
 
-pub fits-spec : {M : Type 1} → statement M
-fits-spec = tie.close (tie.spec returns returns-2 returns-3 returns-4 returns-5 returns-6)
+pub lengths-spec : {M : Type 1} → statement M
+lengths-spec = tie.close (tie.spec returns returns-2 returns-3 returns-4 returns-5 returns-6)
