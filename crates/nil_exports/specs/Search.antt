@@ -1,5 +1,5 @@
 -- A search for `nil` across the boundary: the resolver and the iterator stand in lent arrays, and the answer is a number.
-use Prim.Native.Nat.{ℕ}
+use Prim.Native.Nat.{ℕ, _+_}
 use mathlib.Core.Bool.{Bool, _&&_}
 use mathlib.Core.List.{List}
 use lib.ListN.{length, getD}
@@ -13,7 +13,7 @@ use Rattle.push.specs.Push.{DEEPEST}
 use Rattle.nil.specs.declared.Nil.{Nil}
 use Rattle.nil.specs.declared.Nil.the-variants.{Yes, No, BadState, BadResolver}
 use Rattle.nil.specs.declared.HasNil.{HasNil}
-use Rattle.nil.specs.Nil.{hasNilOf}
+use Rattle.nil.specs.Nil.{nilNumbers, hasNilOf}
 use Rattle.cursor.specs.Cursor.{threeOf, heldIn}
 use Rattle.lent.specs.Scope.{WRONG, fitsOf, resolverIn}
 
@@ -23,12 +23,10 @@ truthNumber Says.No = 0
 truthNumber Says.Yes = 1
 truthNumber Says.Neither = 2
 
--- 0 a no and 1 a yes; a refusal has document 01's number.
+-- 0 a no and 1 a yes; a refusal has document 01's number. By `nilNumbers` a yes or a no has the number 0 and its value,
+-- and a refusal its number and no value: so it is the sum of the two.
 unfoldable pub nilNumber : Nil → ℕ
-nilNumber No = 0
-nilNumber Yes = 1
-nilNumber BadState = 7
-nilNumber BadResolver = 20
+nilNumber a = getD (nilNumbers a) 0 0 + getD (nilNumbers a) 1 0
 
 -- the iterator's arrays have their lengths: 256 places for keys in each table, and three numbers
 unfoldable pub keysFit : (starts ends state : List ℕ) → Bool
