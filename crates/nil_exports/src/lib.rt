@@ -2,8 +2,8 @@
 // Each function hands what it is lent on to the crate that has the rule, and answers by a number; none asks anything of
 // its caller.
 use attributes::Place;
-use parts::Truth;
 use nil::Nil;
+use parts::Truth;
 use table::Levels;
 use table::Numbers;
 use table::Text;
