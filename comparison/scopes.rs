@@ -658,8 +658,18 @@ fn hold_search_unwritten(
     ))
 }
 
-/// The head and the detail one shorter and one longer than they have to be. The resolver's five arrays are
-/// passed without a length.
+/// One place more, or one fewer.
+fn resize<T: Clone + Default>(array: &mut Vec<T>, longer: bool) {
+    let len = if longer {
+        array.len() + 1
+    } else {
+        array.len() - 1
+    };
+    array.resize(len, T::default());
+}
+
+/// The head and the detail, and the iterator's arrays for a search, one shorter and one longer than they
+/// have to be. The resolver's five arrays are passed without a length.
 fn wrong_lengths(_: &Extent, tally: &mut Tally) -> Result<(), String> {
     let mut pair = Pair::fresh(SEED + 5, tally)?;
     pair.make(Call::push("xmlns='u' xmlns:p='v'"))?;
