@@ -34,6 +34,7 @@ mod lent;
 mod library;
 #[path = "scopes/nil.rs"]
 mod nil;
+mod parts;
 
 use cases::Lcg;
 use declarations::{PREFIXES, Tags, VALUES, XML_URI, XMLNS_URI};
@@ -44,6 +45,7 @@ use nil::{Cursor, INSTANCE, KEYS, Tag};
 use oracle::scopes;
 use oracle::steps::Reader;
 use oracle::{Namespace, NamespaceError, NamespaceResolver, QName, ResolveResult};
+use parts::{Counts, Part};
 use std::collections::BTreeSet;
 use std::process::ExitCode;
 
@@ -62,7 +64,7 @@ struct Tally {
     yes: usize,
 }
 
-impl Tally {
+impl Counts for Tally {
     fn line(&self, what: &str) -> String {
         format!(
             "{what}: {} runs, {} calls compared ({} refused, {} by an added refusal), {} names \
@@ -89,6 +91,10 @@ impl Tally {
         self.listed += other.listed;
         self.searches += other.searches;
         self.yes += other.yes;
+    }
+
+    fn reached(&self) -> String {
+        format!("{} calls", self.calls)
     }
 }
 
@@ -894,9 +900,7 @@ fn hold_bad(scope: &Scope, tally: &mut Tally) -> Result<(), String> {
     Ok(())
 }
 
-type Part = fn(&Extent, &mut Tally) -> Result<(), String>;
-
-const PARTS: [(&str, Part); 10] = [
+const PARTS: [(&str, Part<Extent, Tally>); 10] = [
     ("document 01's rows", stated_rows),
     ("limits", limits),
     ("depth", depth),
@@ -918,32 +922,7 @@ const MOST_CALLS: [&str; 5] = [
 ];
 
 fn main() -> ExitCode {
-    let arguments: Vec<String> = std::env::args().skip(1).collect();
-    let extent = match &arguments[..] {
-        [] => BOUNDED,
-        [short] if short == "--short" => SHORT,
-        [whole] if whole == "--whole" => WHOLE,
-        _ => {
-            eprintln!("usage: scopes [--short | --whole]");
-            return ExitCode::FAILURE;
-        }
-    };
-    let mut all = Tally::default();
-    for (what, part) in PARTS {
-        if !extent.every_part && MOST_CALLS.contains(&what) {
-            continue;
-        }
-        let mut tally = Tally::default();
-        if let Err(difference) = part(&extent, &mut tally) {
-            println!(
-                "scopes: difference in {what}, after {} calls: {difference}",
-                tally.calls
-            );
-            return ExitCode::FAILURE;
-        }
-        println!("{}", tally.line(what));
-        all.add(&tally);
-    }
-    println!("{}, no difference", all.line("scopes"));
-    ExitCode::SUCCESS
+    parts::run("scopes", [BOUNDED, SHORT, WHOLE], &PARTS, |extent, what| {
+        !extent.every_part && MOST_CALLS.contains(&what)
+    })
 }

@@ -18,11 +18,13 @@
 mod cases;
 #[path = "../rust/src/library.rs"]
 mod library;
+mod parts;
 
 use cases::{Lcg, Shape};
 use library::mz_read_batch;
 use oracle::steps::{Place, Reader, opened_by_start_tag};
 use oracle::text::shown;
+use parts::{Counts, Part};
 use std::ops::Range;
 use std::process::ExitCode;
 
@@ -238,7 +240,7 @@ struct Tally {
     bad: usize,
 }
 
-impl Tally {
+impl Counts for Tally {
     fn line(&self, what: &str) -> String {
         format!(
             "{what}: {} tags, {} runs, {} steps compared ({} key tables full, {} bad states)",
@@ -254,6 +256,12 @@ impl Tally {
         self.bad += other.bad;
     }
 
+    fn reached(&self) -> String {
+        format!("{} steps", self.steps)
+    }
+}
+
+impl Tally {
     fn progress(&self, what: &str) {
         if self.tags.is_multiple_of(20_000) {
             eprintln!(
@@ -608,9 +616,7 @@ fn drawn_long(extent: &Extent, tally: &mut Tally) -> Result<(), String> {
     Ok(())
 }
 
-type Part = fn(&Extent, &mut Tally) -> Result<(), String>;
-
-const PARTS: [(&str, Part); 5] = [
+const PARTS: [(&str, Part<Extent, Tally>); 5] = [
     ("every byte", every_byte),
     ("every short tag", every_short),
     ("drawn short tags", drawn_short),
@@ -619,29 +625,5 @@ const PARTS: [(&str, Part); 5] = [
 ];
 
 fn main() -> ExitCode {
-    let arguments: Vec<String> = std::env::args().skip(1).collect();
-    let extent = match &arguments[..] {
-        [] => BOUNDED,
-        [short] if short == "--short" => SHORT,
-        [whole] if whole == "--whole" => WHOLE,
-        _ => {
-            eprintln!("usage: tags [--short | --whole]");
-            return ExitCode::FAILURE;
-        }
-    };
-    let mut all = Tally::default();
-    for (what, part) in PARTS {
-        let mut tally = Tally::default();
-        if let Err(difference) = part(&extent, &mut tally) {
-            println!(
-                "tags: difference in {what}, after {} steps: {difference}",
-                tally.steps
-            );
-            return ExitCode::FAILURE;
-        }
-        println!("{}", tally.line(what));
-        all.add(&tally);
-    }
-    println!("{}, no difference", all.line("tags"));
-    ExitCode::SUCCESS
+    parts::run("tags", [BOUNDED, SHORT, WHOLE], &PARTS, |_, _| false)
 }

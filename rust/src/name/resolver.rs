@@ -459,6 +459,19 @@ impl Debug for ResolvedNames<'_, '_> {
     }
 }
 
+/// What a listing shows, if that is not its end; the place goes past it.
+fn next_of<'a>(
+    memory: &'a Memory,
+    (kind, detail): (usize, [usize; 5]),
+    place: &mut usize,
+) -> Option<(PrefixDeclaration<'a>, Namespace<'a>)> {
+    if kind == 0 {
+        return None;
+    }
+    *place = detail[4];
+    Some(shown(memory, kind, detail))
+}
+
 /// The bindings that hold: see [`NamespaceResolver::bindings`].
 #[derive(Debug, Clone)]
 pub struct NamespaceBindingsIter<'a> {
@@ -470,12 +483,8 @@ impl<'a> Iterator for NamespaceBindingsIter<'a> {
     type Item = (PrefixDeclaration<'a>, Namespace<'a>);
 
     fn next(&mut self) -> Option<Self::Item> {
-        let (kind, detail) = self.memory.binding(self.place);
-        if kind == 0 {
-            return None;
-        }
-        self.place = detail[4];
-        Some(shown(self.memory, kind, detail))
+        let listed = self.memory.binding(self.place);
+        next_of(self.memory, listed, &mut self.place)
     }
 
     fn size_hint(&self) -> (usize, Option<usize>) {
@@ -497,12 +506,8 @@ impl<'a> Iterator for NamespaceBindingsOfLevelIter<'a> {
     type Item = (PrefixDeclaration<'a>, Namespace<'a>);
 
     fn next(&mut self) -> Option<Self::Item> {
-        let (kind, detail) = self.memory.binding_of(self.level, self.place);
-        if kind == 0 {
-            return None;
-        }
-        self.place = detail[4];
-        Some(shown(self.memory, kind, detail))
+        let listed = self.memory.binding_of(self.level, self.place);
+        next_of(self.memory, listed, &mut self.place)
     }
 
     fn size_hint(&self) -> (usize, Option<usize>) {
