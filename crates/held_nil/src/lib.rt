@@ -1,7 +1,7 @@
 // `has_nil` of the iterator that carries its tag: `Attributes::has_nil`, src/events/attributes.rs.
 //
 // The search is the plain iterator's, in the crate `nil`: the struct is taken apart, and the state that the search leaves is
-// put in its place. The resolver goes there by value, 92 KB: whoever asks of many tags calls `nil::has_nil_in`. It is apart
+// put in its place. The resolver goes there by value, 92 KB: whoever asks of many tags lends it to `mz_has_nil`. It is apart
 // from the crate `held`, which knows nothing of scopes.
 //
 // No function over a struct that holds a reference is proved by itself: proofs/ has a walk of the code.
