@@ -204,7 +204,7 @@ fn split<'t, 'n>(
 
 // `NamespaceResolver::resolve_prefix`, src/name.rs, on lent arrays: with `named`, a prefix that stands in a name, and
 // else none, whatever `prefix` holds.
-pub fn resolve_prefix_in<'t, 'n>(
+fn resolve_prefix_in<'t, 'n>(
     text: &'t Text,
     starts: &'t Numbers,
     plens: &'t Numbers,

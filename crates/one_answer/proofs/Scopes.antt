@@ -39,7 +39,6 @@ use Rattle.resolver.proofs.max_namespace_bindings as resolver·max-namespace-bi
 use Rattle.resolver.proofs.set_max_namespace_bindings as resolver·set-max-namespace-bindings
 use Rattle.push.proofs.push_in as push·push-in
 use Rattle.push.proofs.push as push·push
-use Rattle.lookup.proofs.resolve_prefix_in as lookup·resolve-prefix-in
 use Rattle.lookup.proofs.resolve_in as lookup·resolve-in
 use Rattle.lookup.proofs.resolve as lookup·resolve
 use Rattle.lookup.proofs.resolve_element as lookup·resolve-element
@@ -139,9 +138,6 @@ module _ {M : Type 1} (𝓤 : URA M) (H : Heap 𝓤) (A : Atoms 𝓤) (mem : Mem
 
   pub push-push : Settled 𝓤 push·push.ended (push·push.clauses 𝓤 H A mem run)
   push-push κs a g y z = alone 𝓤 _ y z refl
-
-  pub lookup-resolve-prefix-in : Settled 𝓤 lookup·resolve-prefix-in.ended (lookup·resolve-prefix-in.clauses 𝓤 H A mem run)
-  lookup-resolve-prefix-in κs a g y z = follows 𝓤 (λ p q. together y z (p 0 ∙ sym (q 0)) refl)
 
   pub lookup-resolve-in : Settled 𝓤 lookup·resolve-in.ended (lookup·resolve-in.clauses 𝓤 H A mem run)
   lookup-resolve-in κs a g y z = follows 𝓤 (λ p q. together y z (p 0 ∙ sym (q 0)) refl)
