@@ -14,6 +14,12 @@
 // A resolver is lent as its text, its records and its head. What is lent may be shorter than the capacity: what is missing is
 // unused and zero, so that a call costs what is lent and no more.
 
+ghost use mathlib.Core.Path.{_≡_};
+ghost use Prim.Native.Nat.{_+_, _≤_};
+ghost use lib.ListN.{length};
+ghost use Rattle.scan.specs.Lists.{over};
+ghost use Rattle.scope_table.specs.Records.{rowAt, recordAt, rowOf, valueStart, valueEnd, prefixIn, valueIn};
+
 // The two arrays of a resolver: its text, and its records as numbers.
 pub type Text = [u8; NamespaceResolver::TEXT];
 
@@ -112,4 +118,64 @@ impl NamespaceResolver {
     // `RESERVED_NAMESPACE_XML` and `RESERVED_NAMESPACE_XMLNS`, src/name.rs, as their text stands in a resolver
     pub const BUILT_IN: [u8; 73] =
         *b"xmlhttp://www.w3.org/XML/1998/namespacexmlnshttp://www.w3.org/2000/xmlns/";
+}
+
+impl NamespaceBinding {
+    // The prefix that a binding has in a text, none for a default: `NamespaceBinding::prefix`, src/name.rs.
+    pub fn prefix(self, text: &[u8]) -> &[u8]
+        requires { ⌜ valueEnd self ≤ length (now text) ⌝ }
+        ensures { λ r. ⌜ now r ≡ prefixIn (now (text .entry)) self ⌝ }
+    {
+        let from = self.start;
+        let to = from + self.prefix_len;
+        &text[from..to]
+    }
+
+    // Its value, which stands right after it: `NamespaceBinding::namespace`.
+    pub fn namespace(self, text: &[u8]) -> &[u8]
+        requires { ⌜ valueEnd self ≤ length (now text) ⌝ }
+        ensures { λ r. ⌜ now r ≡ valueIn (now (text .entry)) self ⌝ }
+    {
+        let from = self.start + self.prefix_len;
+        let to = from + self.value_len;
+        &text[from..to]
+    }
+}
+
+// Record i.
+pub fn record_at(records: &[usize], i: usize) -> NamespaceBinding
+    requires { ⌜ rowAt (i + 1) ≤ length (now records) ⌝ }
+    ensures { λ r. ⌜ r ≡ recordAt (now (records .entry)) i ⌝ }
+{
+    let row = NamespaceResolver::ROW * i;
+    NamespaceBinding {
+        start: records[row],
+        prefix_len: records[row + 1],
+        value_len: records[row + 2],
+        level: records[row + 3],
+    }
+}
+
+// Writes record i.
+pub fn write_record(records: &mut [usize], i: usize, written: NamespaceBinding)
+    requires { ⌜ rowAt (i + 1) ≤ length (now records) ⌝ }
+    ensures { λ _. ⌜ now (records .exit) ≡ over (now (records .entry)) (rowAt i) (rowOf written) ⌝ }
+{
+    let row = NamespaceResolver::ROW * i;
+    records[row] = written.start;
+    records[row + 1] = written.prefix_len;
+    records[row + 2] = written.value_len;
+    records[row + 3] = written.level;
+}
+
+// Writes s over the text from `at` on.
+pub fn put(text: &mut [u8], at: usize, s: &[u8])
+    requires { ⌜ at + length (now s) ≤ length (now text) ⌝ }
+    ensures { λ _. ⌜ now (text .exit) ≡ over (now (text .entry)) at (now (s .entry)) ⌝ }
+{
+    let mut i = 0;
+    while i < s.len() {
+        text[at + i] = s[i];
+        i += 1;
+    }
 }
