@@ -6,3 +6,4 @@ pub mod Progress
 pub mod Good
 pub mod Run
 pub mod Numbers
+pub mod Unchecked

@@ -2,7 +2,7 @@
 -- mode, the checks and the recorded keys, never the place; the state is built once, in `nextOf`.
 use Prim.Native.Nat.{ℕ}
 use mathlib.Core.Path.{_≡_}
-use mathlib.Core.Bool.{Bool, true, _&&_}
+use mathlib.Core.Bool.{Bool, true, false, _&&_}
 use mathlib.Core.List.{List}
 use lib.ListN.{length, replicate}
 use lib.Dec.{ltb, leb}
@@ -194,17 +194,18 @@ unfoldable pub nextIn : List ℕ → Bool → Bool → Keys → Place → Readin
 nextIn s html checks keys place =
     pick (lentGood s checks keys place) (stepOf s html checks keys place) (reading (found BadState Done) (cleared keys))
 
--- an iterator that is opened at position o, with no recorded keys
+-- an iterator that stands at a place, with no recorded keys
+abbrev pub standing : Place → Bool → Bool → IterState
+standing place html checks = lentState place html checks (noKeys .starts) (noKeys .ends) (noKeys .count)
+
+-- one that is opened at position o
 unfoldable pub opened : ℕ → Bool → Bool → IterState
-opened o html checks =
-    record {
-      place = Next o;
-      html = html;
-      «check_duplicates» = checks;
-      starts = noKeys .starts;
-      ends = noKeys .ends;
-      count = noKeys .count;
-    }
+opened o html checks = standing (Next o) html checks
+
+-- With checks off no key is compared or recorded: a step is an answer and the place that it leaves.
+unfoldable pub uncheckedOf : List ℕ → Bool → Place → Found
+uncheckedOf s html place =
+    found (nextOf s (standing place html false) .answer) (nextOf s (standing place html false) .state .place)
 
 -- the same iterator with checks set on or off
 unfoldable pub withChecks : Bool → IterState → IterState

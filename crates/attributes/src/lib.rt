@@ -12,7 +12,7 @@ ghost use mathlib.Core.Bool.{true};
 ghost use Prim.Native.Nat.{_+_, _^_, _<_, _≤_};
 ghost use lib.ListN.{length, replicate};
 ghost use Rattle.attributes.specs.Read.{isQuote, skipOf, skipEqValueOf, recoverOf, keyAt, closedOf, quotedOf, valueAt};
-ghost use Rattle.attributes.specs.Next.{Ready, lent, made, placeAt, placeGood, bareOf, valuedOf, stepOf, lentGood, nextIn, nextOf, opened, withChecks};
+ghost use Rattle.attributes.specs.Next.{Ready, lent, made, placeAt, placeGood, bareOf, valuedOf, stepOf, lentGood, nextIn, nextOf, uncheckedOf, opened, withChecks};
 ghost use Rattle.keys.specs.Keys.{KeysIn, Room};
 use keys::CAPACITY;
 use keys::Checked;
@@ -458,6 +458,23 @@ pub fn step_lent<'a>(
         },
         KeyRead::Bare(key, at) => key_only(tag, starts, ends, html, checks, count, key, at),
         KeyRead::Valued(key, eq) => key_valued(tag, starts, ends, html, checks, count, key, eq),
+    }
+}
+
+// One step with checks off, which neither compares nor records a key, and so wants no tables: what a reader calls that takes
+// every attribute as it comes.
+pub fn step_unchecked(tag: &[u8], html: bool, place: Place) -> Found
+    requires { ⌜ placeGood (now tag) place ≡ true ⌝ }
+    ensures { λ r. ⌜ r ≡ uncheckedOf (now (tag .entry)) html place ⌝ }
+{
+    let mut starts = [0usize; 0];
+    let mut ends = [0usize; 0];
+    let made = step_lent(tag, &mut starts, &mut ends, html, false, 0, place);
+    let answer = made.answer;
+    let left = made.place;
+    Found {
+        answer: answer,
+        place: left,
     }
 }
 
