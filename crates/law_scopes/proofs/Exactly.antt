@@ -1,0 +1,66 @@
+-- Exactly when 18 and 19 come: the three tests of a binding, one after the other, read off the answer.
+use Prim.Native.Nat.{ℕ, _+_, _-_, _<_}
+use mathlib.Core.Path.{_≡_, refl, sym, ap, _∙_}
+use mathlib.Core.Bool.{Bool, true, false, false≢true}
+use mathlib.Core.List.{List}
+use native.Mathlib.Omega.{arith}
+use lib.Dec.{eqb, leb, ltb}
+use lib.ListN.{length, getD}
+use borrow.Author.Tests.{ltb-true, leb-true, leb-false, lt-ltb, le-leb, lt-leb}
+use Rattle.scan.specs.First.{pick}
+use Rattle.scope_table.specs.Table.{TEXT, RECORDS}
+use Rattle.scope_table.specs.Answer.{changeNumbers}
+use Rattle.scope_table.specs.declared.NamespaceResolver.{NamespaceResolver}
+use Rattle.scope_table.specs.declared.NamespaceResult.{NamespaceResult}
+use Rattle.scope_table.specs.declared.NamespaceResult.the-variants.{Done, TooManyBindings, BindingTableFull, TextFull}
+use Rattle.scope_change.specs.Change.{whole, refusalOf, appended, appendOf}
+use Rattle.law_scopes.specs.Promises.{EighteenExactly, NineteenExactly}
+use Rattle.law_scopes.proofs.Form.{form-of}
+
+module _ (limit : ℕ) (x : NamespaceResolver) (p v : List ℕ) where
+  -- what the three tests give
+  abbrev tested : (t₁ t₂ t₃ : Bool) → NamespaceResult
+  tested t₁ t₂ t₃ = appended (pick t₁ (TooManyBindings limit) (pick t₂ BindingTableFull (pick t₃ TextFull Done))) p v x .answer
+
+  -- the number of an answer is not this one
+  another : (a b : NamespaceResult) (n : ℕ) → eqb (getD (changeNumbers a) 0 0) n ≡ false → eqb (getD (changeNumbers b) 0 0) n ≡ true → a ≡ b → ⊥
+  another a b n f t e = false≢true (sym f ∙ ap (λ (c : NamespaceResult). eqb (getD (changeNumbers c) 0 0) n) e ∙ t)
+
+  tested-full : (t₁ t₂ t₃ : Bool) → tested t₁ t₂ t₃ ≡ BindingTableFull → (t₁ ≡ false) × (t₂ ≡ true)
+  unfolding changeNumbers
+  tested-full true t₂ t₃ e = absurd (another (TooManyBindings limit) BindingTableFull 18 refl refl e)
+  tested-full false true t₃ e = (refl, refl)
+  tested-full false false true e = absurd (another TextFull BindingTableFull 18 refl refl e)
+  tested-full false false false e = absurd (another Done BindingTableFull 18 refl refl e)
+
+  tested-text : (t₁ t₂ t₃ : Bool) → tested t₁ t₂ t₃ ≡ TextFull → (t₁ ≡ false) × ((t₂ ≡ false) × (t₃ ≡ true))
+  unfolding changeNumbers
+  tested-text true t₂ t₃ e = absurd (another (TooManyBindings limit) TextFull 19 refl refl e)
+  tested-text false true t₃ e = absurd (another BindingTableFull TextFull 19 refl refl e)
+  tested-text false false true e = (refl, (refl, refl))
+  tested-text false false false e = absurd (another Done TextFull 19 refl refl e)
+
+pub eighteen-exactly : EighteenExactly
+unfolding EighteenExactly appendOf refusalOf
+eighteen-exactly x p v ok = (there, back-again) where
+  there : appendOf whole p v x .answer ≡ BindingTableFull → (x .head .count - 2 < x .head .limit) × (x .head .count ≡ RECORDS)
+  there e =
+      let t = tested-full (x .head .limit) x p v (leb (x .head .limit) (x .head .count - 2)) (leb RECORDS (x .head .count)) (ltb TEXT (x .head .used + (length p + length v))) e in
+      (leb-false (x .head .limit) (x .head .count - 2) (t .0), omega (arith, form-of x ok .few, leb-true RECORDS (x .head .count) (t .1)))
+
+  back-again : (x .head .count - 2 < x .head .limit) × (x .head .count ≡ RECORDS) → appendOf whole p v x .answer ≡ BindingTableFull
+  back-again h = rw (lt-leb (x .head .limit) (x .head .count - 2) (h .0), le-leb RECORDS (x .head .count) (omega (arith, h .1)))
+
+pub nineteen-exactly : NineteenExactly
+unfolding NineteenExactly appendOf refusalOf
+nineteen-exactly x p v ok = (there, back-again) where
+  there : appendOf whole p v x .answer ≡ TextFull → (x .head .count - 2 < x .head .limit) × ((x .head .count < RECORDS) × (TEXT < x .head .used + (length p + length v)))
+  there e =
+      let t = tested-text (x .head .limit) x p v (leb (x .head .limit) (x .head .count - 2)) (leb RECORDS (x .head .count)) (ltb TEXT (x .head .used + (length p + length v))) e in (
+        leb-false (x .head .limit) (x .head .count - 2) (t .0),
+        (leb-false RECORDS (x .head .count) (t .1 .0), ltb-true TEXT (x .head .used + (length p + length v)) (t .1 .1)),
+      )
+
+  back-again : (x .head .count - 2 < x .head .limit) × ((x .head .count < RECORDS) × (TEXT < x .head .used + (length p + length v))) → appendOf whole p v x .answer ≡ TextFull
+  back-again h =
+      rw (lt-leb (x .head .limit) (x .head .count - 2) (h .0), lt-leb RECORDS (x .head .count) (h .1 .0), lt-ltb TEXT (x .head .used + (length p + length v)) (h .1 .1))

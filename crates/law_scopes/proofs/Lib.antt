@@ -1,0 +1,17 @@
+pub mod Lists
+pub mod Form
+pub mod Records
+pub mod Bound
+pub mod Kept
+pub mod Declared
+pub mod Valid
+pub mod Twenty
+pub mod Parts
+pub mod Listed
+pub mod Made
+pub mod BuiltIn
+pub mod Determine
+pub mod Follow
+pub mod Returns
+pub mod Sums
+pub mod Exactly

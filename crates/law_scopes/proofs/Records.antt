@@ -1,0 +1,122 @@
+-- What the built-in records say, how many of the records a level keeps, and tables that have the same records.
+use Prim.Native.Nat.{ℕ, zero, suc, _+_, _≤_, _<_}
+use mathlib.Core.Path.{_≡_, refl, ap, _∙_}
+use mathlib.Core.Bool.{true}
+use mathlib.Core.List.{List, [], _∷_, _++_}
+use mathlib.Core.Logic.{⊎-elim}
+use native.Mathlib.Nat.{not-suc-le-zero, eq-or-lt-of-le, add-suc, add-zero}
+use native.Mathlib.Numerals.{add-one}
+use native.Mathlib.Omega.{arith}
+use lib.Dec.{eqb, leb}
+use lib.ListN.{length, take, drop, getD}
+use lib.Seq.{take-add, drop-cons}
+use borrow.Author.Tests.{eqb-true, leb-true, leb-false}
+use Rattle.scan.proofs.Laws.{picks}
+use Rattle.scope_table.specs.Records.{ROW, rowAt, recordAt, rowOf}
+use Rattle.scope_table.specs.Table.{textOf, levelBefore, isRecord}
+use Rattle.scope_table.specs.declared.NamespaceBinding.{NamespaceBinding}
+use Rattle.scope_table.specs.declared.NamespaceResolver.{NamespaceResolver}
+use Rattle.scope_table.proofs.Lists.{and-left, and-right}
+use Rattle.scope_table.proofs.Rows.{Same}
+use Rattle.scope_change.specs.Change.{keptAt}
+use Rattle.law_scopes.proofs.Form.{Formed, text-grows}
+
+-- no level before record n is above what the first n are not above
+pub before-top : (n top : ℕ) (rows : ℕ → NamespaceBinding) → ((k : ℕ) → k < n → rows k .level ≤ top) → levelBefore rows n ≤ top
+unfolding levelBefore
+before-top zero top rows h = omega arith
+before-top (suc n) top rows h = h n (omega arith)
+
+-- The built-ins have 73 bytes, and level 0.
+
+pub record Said (b : NamespaceBinding) (p v l : ℕ) : Type 0 where
+  pub prefix-len : b .«prefix_len» ≡ p
+  pub value-len : b .«value_len» ≡ v
+  pub level : b .level ≡ l
+
+pub says : (b : NamespaceBinding) (p v l : ℕ) → isRecord b p v l ≡ true → Said b p v l
+unfolding isRecord
+says b p v l e =
+    let r = and-right (eqb (b .«prefix_len») p) _ e in
+    record {
+      prefix-len = eqb-true _ _ (and-left (eqb (b .«prefix_len») p) _ e);
+      value-len = eqb-true _ _ (and-left (eqb (b .«value_len») v) _ r);
+      level = eqb-true _ _ (and-right (eqb (b .«value_len») v) _ r);
+    }
+
+pub text-two : (rows : ℕ → NamespaceBinding) → isRecord (rows 0) 3 36 0 ≡ true → isRecord (rows 1) 5 29 0 ≡ true → textOf rows 2 ≡ 73
+unfolding textOf
+text-two rows a b =
+    let x = says (rows 0) 3 36 0 a in
+    let y = says (rows 1) 5 29 0 b in
+    omega (arith, x .prefix-len, x .value-len, y .prefix-len, y .value-len)
+
+-- their text is within the text of the first n records
+pub opening-within : (x : NamespaceResolver) → Formed x → (n : ℕ) → 2 ≤ n → 73 ≤ textOf (recordAt (x .records)) n
+opening-within x f n h =
+    omega (arith, text-two (recordAt (x .records)) (f .xml) (f .xmlns), text-grows (recordAt (x .records)) 2 n h)
+
+-- The records that a level keeps.
+
+module _ (rows : ℕ → NamespaceBinding) (v : ℕ) where
+  -- they go up to any record that is not above it
+  pub kept-least : (n m : ℕ) → suc m ≤ n → rows m .level ≤ v → suc m ≤ keptAt rows v n
+  unfolding keptAt
+  kept-least zero m h l = h
+  kept-least (suc n) m h l =
+      picks (λ (k : ℕ). suc m ≤ k) (leb (rows n .level) v) (λ e. h)
+      (λ e.
+      let f = leb-false (rows n .level) v e in
+      ⊎-elim (λ (q : m ≡ n). absurd (omega (arith, ap (λ (k : ℕ). rows k .level) q))) (λ (i : m < n). kept-least n m i l) (eq-or-lt-of-le (omega arith)))
+
+  abbrev pub Rising : ℕ → Type 0
+  Rising n = (k : ℕ) → k < n → levelBefore rows k ≤ rows k .level
+
+  rises-to : (n j : ℕ) → Rising (suc n) → j ≤ n → rows j .level ≤ rows n .level
+  unfolding levelBefore
+  rises-to zero j r h =
+      let z : j ≡ 0 = omega arith in
+      rw z (omega arith)
+  rises-to (suc n) j r h =
+      ⊎-elim (λ (q : j ≡ suc n). rw q (omega arith))
+      (λ (i : j < suc n). let g = rises-to n j (λ k l. r k (omega arith)) (omega arith) in let s = r (suc n) (omega arith) in omega arith)
+      (eq-or-lt-of-le h)
+
+  -- where levels do not fall, none of them is above it
+  pub kept-below : (n : ℕ) → Rising n → (j : ℕ) → j < keptAt rows v n → rows j .level ≤ v
+  unfolding keptAt
+  kept-below zero r j = λ h. absurd (not-suc-le-zero h)
+  kept-below (suc n) r j =
+      picks (λ (m : ℕ). j < m → rows j .level ≤ v) (leb (rows n .level) v)
+      (λ e i.
+      let f = leb-true (rows n .level) v e in
+      let g = rises-to n j r (omega arith) in
+      omega arith)
+      (λ e i. kept-below n (λ k l. r k (omega arith)) j i)
+
+  -- and what it drops is above it
+  pub kept-above : (n j : ℕ) → keptAt rows v n ≤ j → j < n → v < rows j .level
+  unfolding keptAt
+  kept-above zero j = λ lo hi. absurd (not-suc-le-zero hi)
+  kept-above (suc n) j =
+      picks (λ (m : ℕ). m ≤ j → j < suc n → v < rows j .level) (leb (rows n .level) v) (λ e lo hi. absurd (omega arith))
+      (λ e lo hi.
+      ⊎-elim (λ (q : j ≡ n). rw q (leb-false (rows n .level) v e)) (λ (i : j < n). kept-above n j lo i) (eq-or-lt-of-le (omega arith)))
+
+-- The numbers of a record are what stands in its row; so tables with the same records are the same there.
+
+row-stands : (t : List ℕ) (n : ℕ) → rowAt n + ROW ≤ length t → take ROW (drop (rowAt n) t) ≡ rowOf (recordAt t n)
+row-stands t n h =
+    let a = rowAt n in
+    let one : a + 1 ≡ suc a = add-one a in
+    let two : a + 2 ≡ suc (suc a) = omega arith in
+    let three : a + 3 ≡ suc (suc (suc a)) = omega arith in
+    rw (drop-cons t a 0 (omega arith), drop-cons t (suc a) 0 (omega arith), drop-cons t (suc (suc a)) 0 (omega arith), drop-cons t (suc (suc (suc a))) 0 (omega arith), one, two, three)
+
+pub take-same : (n : ℕ) (l m : List ℕ) → rowAt n ≤ length l → rowAt n ≤ length m → Same n (recordAt l) (recordAt m) → take (rowAt n) l ≡ take (rowAt n) m
+take-same zero l m h k s = refl
+take-same (suc n) l m h k s =
+    let e : rowAt (suc n) ≡ rowAt n + ROW = omega arith in
+    let i = take-same n l m (omega arith) (omega arith) (λ j b. s j (omega arith)) in
+    rw (e, take-add (rowAt n) ROW l, take-add (rowAt n) ROW m, row-stands l n (omega arith), row-stands m n (omega arith), i)
+    (ap (λ (b : NamespaceBinding). take (rowAt n) m ++ rowOf b) (s n (omega arith)))

@@ -1,0 +1,5 @@
+pub mod Sized
+pub mod Calls
+pub mod Scopes
+pub mod Made
+pub mod Promises

@@ -1,0 +1,2 @@
+// What a sequence of calls leaves of a resolver: definitions (specs/) and theorems (proofs/) over those of `scope_table`,
+// `scope_change`, `scope_declare` and `scope_push`. There is no code here.
