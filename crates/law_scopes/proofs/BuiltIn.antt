@@ -1,7 +1,6 @@
 -- What the first two records of a table say: the lengths and the level that 20 asks for, and the built-in text.
 use Prim.Native.Nat.{ℕ, _≤_}
 use mathlib.Core.Path.{_≡_, refl, sym, ap, _∙_}
-use mathlib.Core.List.{List}
 use native.Mathlib.Omega.{arith}
 use lib.ListN.{take}
 use Rattle.scan.specs.Bytes.{bytes, bytesFrom, part}

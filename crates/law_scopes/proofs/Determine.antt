@@ -14,7 +14,7 @@ use Rattle.scope_table.specs.Records.{rowAt, recordAt, bindingOf, prefixIn, val
 use Rattle.scope_table.specs.Table.{builtIn, headOf, resolverOf, textOf}
 use Rattle.scope_table.specs.declared.NamespaceBinding.{NamespaceBinding}
 use Rattle.scope_table.specs.declared.NamespaceResolver.{NamespaceResolver}
-use Rattle.scope_table.proofs.Rows.{Same, text-same}
+use Rattle.scope_table.proofs.Rows.{Same}
 use Rattle.law_scopes.specs.Scopes.{Made, Scopes}
 use Rattle.law_scopes.specs.Made.{listTo, madeOf, madeAt, madeIn, scopesOf}
 use Rattle.law_scopes.specs.Promises.{Proper, ScopesDetermine}

@@ -8,7 +8,7 @@ use lib.Dec.{leb, ltb}
 use lib.ListN.{length, take}
 use borrow.Author.Tests.{leb-false}
 use Rattle.scan.specs.First.{pick}
-use Rattle.scope_table.specs.Records.{recordAt, prefixIn, valueIn}
+use Rattle.scope_table.specs.Records.{prefixIn, valueIn}
 use Rattle.scope_table.specs.Table.{TEXT, RECORDS, DEEPEST, headOf}
 use Rattle.scope_table.specs.Answer.{isDone}
 use Rattle.scope_table.specs.declared.NamespaceResolver.{NamespaceResolver}

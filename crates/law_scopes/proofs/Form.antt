@@ -1,8 +1,7 @@
 -- What a table of the right form has, test by test, and back.
 use Prim.Native.Nat.{ℕ, zero, suc, _+_, _≤_, _<_}
-use mathlib.Core.Path.{_≡_, refl}
+use mathlib.Core.Path.{_≡_}
 use mathlib.Core.Bool.{Bool, true, _&&_}
-use mathlib.Core.List.{List}
 use mathlib.Core.Logic.{⊎-elim}
 use native.Mathlib.Nat.{eq-or-lt-of-le}
 use native.Mathlib.Numerals.{add-one}
@@ -15,7 +14,6 @@ use Rattle.scan.proofs.Laws.{picks}
 use Rattle.scope_table.specs.Lists.{allBelow, allZero}
 use Rattle.scope_table.specs.Records.{rowAt, recordAt}
 use Rattle.scope_table.specs.Table.{TEXT, RECORDS, DEEPEST, builtIn, textOf, levelBefore, isRecord, opensBuiltIn, isChain, isRising, isWithin, isClear, isTable, validOf}
-use Rattle.scope_table.specs.declared.Head.{Head}
 use Rattle.scope_table.specs.declared.NamespaceBinding.{NamespaceBinding}
 use Rattle.scope_table.specs.declared.NamespaceResolver.{NamespaceResolver}
 use Rattle.scope_table.proofs.Lists.{and-left, and-right, and-take, all-at, all-of}

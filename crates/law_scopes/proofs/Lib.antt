@@ -15,3 +15,4 @@ pub mod Follow
 pub mod Returns
 pub mod Sums
 pub mod Exactly
+pub mod Examples

@@ -5,17 +5,16 @@ use mathlib.Core.Path.{_≡_, sym, ap, _∙_}
 use mathlib.Core.List.{List, [], _∷_, _++_}
 use native.Mathlib.Omega.{arith}
 use lib.ListN.{length, take}
-use Rattle.scan.specs.Bytes.{part}
 use Rattle.scan.specs.Lists.{over}
 use Rattle.scan.proofs.Lists.{part-length, take-of-over, part-same}
-use Rattle.scope_table.specs.Records.{rowAt, recordAt, bindingOf, valueStart, valueEnd, prefixIn, valueIn}
+use Rattle.scope_table.specs.Records.{recordAt, bindingOf, valueStart, valueEnd, prefixIn, valueIn}
 use Rattle.scope_table.specs.Table.{textOf}
 use Rattle.scope_table.specs.declared.NamespaceBinding.{NamespaceBinding}
 use Rattle.scope_table.specs.declared.NamespaceResolver.{NamespaceResolver}
 use Rattle.scope_table.proofs.Rows.{Same}
 use Rattle.scope_change.specs.Change.{boundOf, keptOf, droppedOf}
 use Rattle.law_scopes.specs.Sized.{Sized}
-use Rattle.law_scopes.specs.Scopes.{Made, made, sizeOf, upTo}
+use Rattle.law_scopes.specs.Scopes.{made, sizeOf, upTo}
 use Rattle.law_scopes.specs.Made.{listTo, madeOf, madeAt, madeIn}
 use Rattle.law_scopes.proofs.Lists.{take-of-cut}
 use Rattle.law_scopes.proofs.Form.{Formed, text-next, text-grows}

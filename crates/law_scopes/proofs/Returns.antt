@@ -7,7 +7,6 @@ use native.Mathlib.Omega.{arith}
 use lib.ListN.{take}
 use borrow.Author.Tests.{lt-leb}
 use Rattle.scan.proofs.Laws.{picks}
-use Rattle.scope_table.specs.Records.{recordAt}
 use Rattle.scope_table.specs.Table.{DEEPEST}
 use Rattle.scope_table.specs.Answer.{isDone, changed}
 use Rattle.scope_table.specs.declared.NamespaceResolver.{NamespaceResolver}

@@ -34,7 +34,7 @@ pub fresh-none : scopesOf freshOf ≡ none
 unfolding scopesOf freshOf madeIn listTo none
 fresh-none = refl
 
-left-standing : (calls : List Call) (x : NamespaceResolver) → Proper x → scopesOf (leftBy calls x) ≡ standing calls (scopesOf x)
+pub left-standing : (calls : List Call) (x : NamespaceResolver) → Proper x → scopesOf (leftBy calls x) ≡ standing calls (scopesOf x)
 unfolding leftBy standing ValidStays ScopesFollow seen
 left-standing [] x g = refl
 left-standing (c ∷ more) x g =

@@ -4,17 +4,17 @@ use mathlib.Core.Path.{_≡_, refl, ap, _∙_}
 use mathlib.Core.List.{List, [], _∷_}
 use native.Mathlib.Omega.{arith}
 use lib.Dec.{leb}
-use lib.ListN.{length, getD, replicate, length-append, length-replicate}
+use lib.ListN.{length, replicate, length-append, length-replicate}
 use lib.Seq.{take-at, drop-at}
 use borrow.Author.Tests.{leb-false}
 use Rattle.scan.specs.Bytes.{bytes, bytesFrom}
 use Rattle.scan.proofs.Bytes.{same-refl}
 use Rattle.scan.proofs.Laws.{picks}
 use Rattle.scope_table.specs.Records.{ROW, recordAt}
-use Rattle.scope_table.specs.Table.{TEXT, NUMBERS, DEEPEST, builtIn, textOf, levelBefore, isRecord, validOf, freshOf}
+use Rattle.scope_table.specs.Table.{NUMBERS, DEEPEST, builtIn, textOf, levelBefore, isRecord, freshOf}
 use Rattle.scope_table.specs.declared.NamespaceResolver.{NamespaceResolver}
 use Rattle.scope_table.specs.declared.Changed.{Changed}
-use Rattle.scope_change.specs.Change.{whole, boundOf, levelOf, droppedOf}
+use Rattle.scope_change.specs.Change.{boundOf, levelOf, droppedOf}
 use Rattle.scope_declare.specs.Declare.{addOf, popOf, limitedOf}
 use Rattle.scope_push.specs.Push.{declarationsOf, tagAnswers, raisedOf, pushOf}
 use Rattle.law_scopes.specs.Sized.{Sized}

@@ -1,0 +1,193 @@
+-- The theorems at work: a history of calls by computation, resolvers of which the premises hold, and what each theorem says of
+-- them. The tables that are full, for 18 and 19, are reached by calls and never written out.
+use Prim.Native.Nat.{ℕ, zero, suc, _+_, _≤_, _<_}
+use mathlib.Core.Path.{_≡_, refl, sym, ap, subst, _∙_}
+use mathlib.Core.Bool.{true}
+use mathlib.Core.List.{List, [], _∷_, _++_}
+use native.Mathlib.Omega.{arith}
+use lib.ListN.{length, replicate, length-append, length-replicate}
+use borrow.Author.Tests.{lt-leb, le-ltb}
+use Rattle.scan.specs.First.{stopOr, firstOf, firstTo, firstFrom}
+use Rattle.scan.specs.Bytes.{isSpace, notSpace, endsKey, isByte, part, sameBytes, bytesFrom, bytes}
+use Rattle.keys.specs.Keys.{keyGood, keyBad, countGood, tableGood, nameAt, sameKey, oldestOf, earlierOf, checkedBy, checkedOf, writtenBy, countBy}
+use Rattle.attributes.specs.Read.{isAt, isQuote, skipTo, skipOf, recoverOf, keyEq, keyTo, keyFrom, keyAt, quoted, closedOf, quotedTo, quotedOf, unquotedTo, otherOf, valueIn, valueFrom, valueAt}
+use Rattle.attributes.specs.Next.{checkOf, keptBy, placeAt, bareBy, bareTo, bareOf, valuedBy, valuedTo, valuedOf, readKey, readAt, stepFrom, stepOf, placeGood, keysOf, stateGood, noKeys, badReading, leaves, nextOf, opened}
+use Rattle.attributes.specs.Run.{isEnd, consUnless, runOf, answersOf}
+use Rattle.parts.specs.Parts.{spanPart, keyPart, valuePart}
+use Rattle.name.specs.Reserved.{xmlPrefix, xmlnsPrefix, xmlUri, xmlnsUri, isXml, isXmlns, isXmlUri, isXmlnsUri}
+use Rattle.name.specs.Bind.{reservedBind}
+use Rattle.name.specs.Declares.{opening, isNamed, declaresOf, declaredPrefix}
+use Rattle.name.specs.declared.Declares.the-variants.{Default, Named}
+use Rattle.scope_table.specs.Table.{TEXT, RECORDS, LIMIT, headOf, resolverOf, isWithin, opensBuiltIn, isTable, validOf, freshOf}
+use Rattle.scope_table.specs.Answer.{changed}
+use Rattle.scope_table.specs.declared.NamespaceResolver.{NamespaceResolver}
+use Rattle.scope_table.specs.declared.NamespaceResult.the-variants.{Done, InvalidXmlnsPrefixBind, BindingTableFull, TextFull, BadResolver, LendMore, WrongLength}
+use Rattle.scope_change.specs.Change.{whole, appendOf}
+use Rattle.scope_declare.specs.Declare.{namedOf, judgeOf, addOf, popOf}
+use Rattle.scope_push.specs.Push.{declarationOf, declarationThen, declarationsOf, tagAnswers, pushOf}
+use Rattle.law_scopes.specs.Calls.{Call, add, push, pop, setLimit, callOf, testsForm, leftBy, answersBy}
+use Rattle.law_scopes.specs.Scopes.{Made, made, Scopes, scopes, Told, told, none, sizeOf, roomFor, bindIn, settleIn, declareIn, declareAllIn, keeps, upTo, levelIn, callIn, standing, answersIn}
+use Rattle.law_scopes.specs.Made.{madeAt, seen}
+use Rattle.law_scopes.specs.Promises.{PushPopReturns, ValidStays, ReachedValid, BadStays, BadOnly, SizedStays, FullNeverLends, EighteenExactly, NineteenExactly, ScopesFollow, BuiltInsStand, ScopesDetermine, ScopeSums, AnswersFollow}
+use Rattle.law_scopes.proofs.Valid.{fresh-proper, valid-stays, reached-valid}
+use Rattle.law_scopes.proofs.Twenty.{bad-stays, bad-only, sized-stays, full-never-lends}
+use Rattle.law_scopes.proofs.BuiltIn.{built-ins-stand}
+use Rattle.law_scopes.proofs.Determine.{scopes-determine}
+use Rattle.law_scopes.proofs.Follow.{scopes-follow}
+use Rattle.law_scopes.proofs.Returns.{push-pop-returns}
+use Rattle.law_scopes.proofs.Sums.{fresh-none, left-standing, scope-sums, answers-follow}
+use Rattle.law_scopes.proofs.Exactly.{eighteen-exactly, nineteen-exactly}
+
+-- a tag, a tag in it that is refused half way, a declaration added there, and what comes then
+abbrev outerTag : List ℕ
+outerTag = bytes " xmlns=\"u\" xmlns:p=\"v\""
+
+abbrev innerTag : List ℕ
+innerTag = bytes " xmlns:q=\"w\" xmlns:xmlns=\"x\" xmlns:r=\"y\""
+
+abbrev history : List Call → List Call
+history more = push outerTag 0 ∷ push innerTag 0 ∷ add Named (bytes "s") (bytes "z") ∷ more
+
+abbrev outer : List Made → List Made
+outer more = made [] (bytes "u") 1 ∷ made (bytes "p") (bytes "v") 1 ∷ more
+
+abbrev both : List Made
+both = outer (made (bytes "q") (bytes "w") 2 ∷ made (bytes "s") (bytes "z") 2 ∷ [])
+
+-- `q` stands, the reserved prefix is 13 with its value, and `r` is not come to; a pop leaves the outer tag's
+pub history-example :
+    (answersIn (history []) none ≡ Done ∷ InvalidXmlnsPrefixBind 26 27 ∷ Done ∷ [])
+    × (standing (history []) none ≡ scopes both 2 LIMIT)
+    × (standing (history (pop ∷ [])) none ≡ scopes (outer []) 1 LIMIT)
+    × (standing (history (pop ∷ pop ∷ [])) none ≡ none)
+    × (callIn (push outerTag 0) none ≡ told Done (scopes (outer []) 1 LIMIT))
+    × (sizeOf both ≡ 7)
+unfolding stopOr firstOf firstTo firstFrom isSpace notSpace endsKey isByte part sameBytes bytesFrom bytes keyGood keyBad countGood tableGood nameAt sameKey oldestOf earlierOf checkedBy checkedOf writtenBy countBy isAt isQuote skipTo skipOf recoverOf keyEq keyTo keyFrom keyAt quoted closedOf quotedTo quotedOf unquotedTo otherOf valueIn valueFrom valueAt checkOf keptBy placeAt bareBy bareTo bareOf valuedBy valuedTo valuedOf readKey readAt stepFrom stepOf placeGood keysOf stateGood noKeys badReading leaves nextOf opened isEnd consUnless runOf answersOf spanPart keyPart valuePart xmlPrefix xmlnsPrefix xmlUri xmlnsUri isXml isXmlns isXmlUri isXmlnsUri reservedBind opening isNamed declaresOf declaredPrefix namedOf judgeOf tagAnswers declarationOf declarationThen declarationsOf none sizeOf roomFor bindIn settleIn declareIn declareAllIn keeps upTo levelIn callIn standing answersIn
+history-example = (refl, refl, refl, refl, refl, refl)
+
+-- The fresh resolver, and what calls make of it.
+
+pub push-pop-instance : popOf (pushOf innerTag 0 freshOf .resolver) ≡ changed Done freshOf
+unfolding PushPopReturns freshOf
+push-pop-instance = push-pop-returns freshOf (fresh-proper .sized) (fresh-proper .valid) (omega arith) innerTag 0
+
+pub valid-stays-instance : validOf (pushOf innerTag 0 freshOf .resolver) ≡ true
+unfolding ValidStays callOf
+valid-stays-instance = valid-stays freshOf fresh-proper (push innerTag 0) .valid
+
+pub reached-valid-instance : validOf (leftBy (history []) freshOf) ≡ true
+unfolding ReachedValid
+reached-valid-instance = reached-valid (history []) .valid
+
+pub bad-only-instance : addOf Default [] (bytes "u") freshOf .answer ≡ BadResolver → ⊥
+unfolding BadOnly callOf
+bad-only-instance = bad-only freshOf (fresh-proper .valid) (add Default [] (bytes "u"))
+
+pub sized-stays-instance : length (popOf freshOf .resolver .text) ≡ TEXT
+unfolding SizedStays callOf
+sized-stays-instance = sized-stays freshOf (fresh-proper .sized) pop .text
+
+pub never-lends-instance : (pushOf innerTag 0 freshOf .answer ≡ LendMore → ⊥) × (pushOf innerTag 0 freshOf .answer ≡ WrongLength → ⊥)
+unfolding FullNeverLends callOf
+never-lends-instance = full-never-lends freshOf (push innerTag 0)
+
+pub follow-instance : seen (pushOf outerTag 0 freshOf) ≡ told Done (scopes (outer []) 1 LIMIT)
+unfolding ScopesFollow callOf
+follow-instance = scopes-follow freshOf fresh-proper (push outerTag 0) ∙ ap (callIn (push outerTag 0)) fresh-none ∙ history-example .4
+
+pub built-ins-instance : (madeAt freshOf 0 ≡ made xmlPrefix xmlUri 0) × (madeAt freshOf 1 ≡ made xmlnsPrefix xmlnsUri 0)
+unfolding BuiltInsStand
+built-ins-instance = built-ins-stand freshOf fresh-proper
+
+-- two pops after two pushes: nothing stands, so it is the fresh resolver again
+pub determine-instance : leftBy (history (pop ∷ pop ∷ [])) freshOf ≡ freshOf
+unfolding ScopesDetermine ReachedValid
+determine-instance =
+    let calls = history (pop ∷ pop ∷ []) in
+    scopes-determine (leftBy calls freshOf) freshOf (reached-valid calls) fresh-proper
+    (left-standing calls freshOf fresh-proper ∙ ap (standing calls) fresh-none ∙ history-example .3 ∙ sym fresh-none)
+
+pub sums-instance : (leftBy (history []) freshOf .head .used ≡ 80) × (leftBy (history []) freshOf .head .count ≡ 6)
+unfolding ScopeSums
+sums-instance =
+    let s = scope-sums (history []) in
+    let h : standing (history []) none .bound ≡ both = ap (λ (t : Scopes). t .bound) (history-example .1) in
+    let size : sizeOf both ≡ 7 = history-example .5 in (
+      s .text ∙ ap (λ (l : List Made). 73 + sizeOf l) h ∙ omega arith,
+      s .records ∙ ap (λ (l : List Made). 2 + length l) h,
+    )
+
+pub answers-instance : answersBy (history []) freshOf ≡ Done ∷ InvalidXmlnsPrefixBind 26 27 ∷ Done ∷ []
+unfolding AnswersFollow
+answers-instance = answers-follow (history []) ∙ history-example .0
+
+-- One that 20 refuses: nothing is in use, not even the built-ins.
+
+abbrev empty : NamespaceResolver
+empty = resolverOf [] [] (headOf 0 0 0 LIMIT)
+
+pub bad-stays-instance : pushOf outerTag 0 empty ≡ changed BadResolver empty
+unfolding BadStays callOf testsForm validOf isTable isWithin opensBuiltIn
+bad-stays-instance = bad-stays empty refl (push outerTag 0) refl
+
+-- 18: with a limit of 2,000, 1,024 bindings of no bytes fill the records.
+
+abbrev one : Call
+one = add Default [] []
+
+one-in : (t : Scopes) → length (t .bound) < 1024 → length (t .bound) < t .limit → sizeOf (t .bound) ≡ 0 → callIn one t ≡ told Done (bindIn t [] [])
+unfolding callIn declareIn settleIn judgeOf roomFor
+one-in t few within nothing =
+    rw (lt-leb (t .limit) (length (t .bound)) within, lt-leb RECORDS (2 + length (t .bound)) (omega arith), le-ltb TEXT (73 + sizeOf (t .bound) + 0) (omega arith))
+
+size-one : (l : List Made) (level : ℕ) → sizeOf (l ++ (made [] [] level ∷ [])) ≡ sizeOf l
+unfolding sizeOf
+size-one [] level = refl
+size-one (b ∷ l) level = ap (λ (n : ℕ). length (b .prefix) + length (b .value) + n) (size-one l level)
+
+record Grown (n : ℕ) (t u : Scopes) : Type 0 where
+  bound : length (u .bound) ≡ length (t .bound) + n
+  limit : u .limit ≡ t .limit
+
+grown : (n : ℕ) (t : Scopes) → length (t .bound) + n ≤ 1024 → 1024 < t .limit → sizeOf (t .bound) ≡ 0 → Grown n t (standing (replicate n one) t)
+unfolding standing bindIn
+grown zero t few within nothing = record { bound = omega arith; limit = refl }
+grown (suc n) t few within nothing =
+    let u = bindIn t [] [] in
+    let l : length (u .bound) ≡ length (t .bound) + 1 = length-append (t .bound) (made [] [] (t .level) ∷ []) in
+    let g = grown n u (omega arith) within (size-one (t .bound) (t .level) ∙ nothing) in
+    subst (λ (r : Told). Grown (suc n) t (standing (replicate n one) (r .scopes))) (sym (one-in t (omega arith) (omega arith) nothing))
+    (record { bound = g .bound ∙ omega arith; limit = g .limit })
+
+abbrev filling : List Call
+filling = setLimit 2000 ∷ replicate 1024 one
+
+pub eighteen-instance : appendOf whole (bytes "p") (bytes "v") (leftBy filling freshOf) .answer ≡ BindingTableFull
+unfolding EighteenExactly ScopeSums ReachedValid standing callIn none sizeOf
+eighteen-instance =
+    let x = leftBy filling freshOf in
+    let s = scope-sums filling in
+    let g = grown 1024 (scopes [] 0 2000) (omega arith) (omega arith) refl in
+    let count : x .head .count ≡ RECORDS = s .records ∙ ap (λ (n : ℕ). 2 + n) (g .bound) in
+    let limit : x .head .limit ≡ 2000 = s .limit ∙ g .limit in
+    eighteen-exactly x (bytes "p") (bytes "v") (reached-valid filling .valid) .1 (omega arith, count)
+
+-- 19: one value of 65,463 bytes, 73 being built in, fills the text.
+
+abbrev longest : Call
+longest = add Default [] (replicate 65463 0)
+
+long-in : (v : List ℕ) → length v ≡ 65463 → callIn (add Default [] v) none ≡ told Done (bindIn none [] v)
+unfolding callIn declareIn settleIn judgeOf roomFor none sizeOf
+long-in v e = rw e
+
+pub nineteen-instance : appendOf whole (bytes "p") (bytes "v") (leftBy (longest ∷ []) freshOf) .answer ≡ TextFull
+unfolding NineteenExactly ScopeSums ReachedValid standing bindIn none sizeOf bytes bytesFrom
+nineteen-instance =
+    let x = leftBy (longest ∷ []) freshOf in
+    let s = scope-sums (longest ∷ []) in
+    let left : callIn longest none .scopes ≡ bindIn none [] (replicate 65463 0) = ap (λ (r : Told). r .scopes) (long-in (replicate 65463 0) (length-replicate {A = ℕ} 65463 0)) in
+    let used : x .head .used ≡ TEXT = s .text ∙ ap (λ (t : Scopes). 73 + sizeOf (t .bound)) left ∙ omega (arith, length-replicate {A = ℕ} 65463 0) in
+    let count : x .head .count ≡ 3 = s .records ∙ ap (λ (t : Scopes). 2 + length (t .bound)) left in
+    let limit : x .head .limit ≡ LIMIT = s .limit ∙ ap (λ (t : Scopes). t .limit) left in
+    nineteen-exactly x (bytes "p") (bytes "v") (reached-valid (longest ∷ []) .valid) .1 (omega arith, (omega arith, omega arith))
