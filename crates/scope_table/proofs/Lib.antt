@@ -1,2 +1,6 @@
 pub mod Lists
+pub mod Bits
 pub mod Rows
+pub mod Turns
+pub mod Pad
+pub mod Good

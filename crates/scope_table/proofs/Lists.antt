@@ -56,7 +56,7 @@ all-off p n k h f = by (allBelow p n) refl where
 
 -- Zeros: the bits of all elements so far in one number.
 
-or-none : (a b : ℕ) → eqb (bitOr a b) 0 ≡ (eqb a 0 && eqb b 0)
+pub or-none : (a b : ℕ) → eqb (bitOr a b) 0 ≡ (eqb a 0 && eqb b 0)
 or-none a b = by (eqb (bitOr a b) 0) refl where
   off : (bitOr a b ≡ 0 → ⊥) → (t : Bool) → eqb a 0 ≡ t → (t && eqb b 0) ≡ false
   off n true e = ne-eqb b 0 (λ z. n (let h = eqb-true a 0 e in omega (arith, or-add-and a b)))
@@ -70,7 +70,7 @@ or-none a b = by (eqb (bitOr a b) 0) refl where
       e ∙ sym (and-take (eq-eqb a 0 x) (eq-eqb b 0 y))
   by false e = e ∙ sym (off (eqb-false (bitOr a b) 0 e) (eqb a 0) refl)
 
-and-swap : (a b c : Bool) → (a && (b && c)) ≡ ((a && b) && c)
+pub and-swap : (a b c : Bool) → (a && (b && c)) ≡ ((a && b) && c)
 and-swap true b c = refl
 and-swap false b c = refl
 

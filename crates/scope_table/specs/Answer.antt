@@ -2,6 +2,8 @@
 use Prim.Native.Nat.{ℕ}
 use mathlib.Core.Bool.{Bool, true, false}
 use mathlib.Core.List.{List, [], _∷_}
+use lib.ListN.{getD}
+use Rattle.scope_table.specs.declared.Told.{Told}
 use Rattle.scope_table.specs.declared.NamespaceResolver.{NamespaceResolver}
 use Rattle.scope_table.specs.declared.Changed.{Changed}
 use Rattle.scope_table.specs.declared.NamespaceResult.{NamespaceResult}
@@ -23,6 +25,10 @@ changeNumbers TextFull = 19 ∷ []
 changeNumbers BadResolver = 20 ∷ []
 changeNumbers LendMore = 98 ∷ []
 changeNumbers WrongLength = 99 ∷ []
+
+-- Such a list as three numbers, 0 where it has none.
+abbrev pub toldOf : List ℕ → Told
+toldOf ns = record { number = getD ns 0 0; first = getD ns 1 0; second = getD ns 2 0 }
 
 -- whether an answer is no refusal
 abbrev pub isDone : NamespaceResult → Bool

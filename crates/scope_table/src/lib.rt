@@ -15,10 +15,17 @@
 // unused and zero, so that a call costs what is lent and no more.
 
 ghost use mathlib.Core.Path.{_≡_};
+ghost use mathlib.Core.Bool.{true};
 ghost use Prim.Native.Nat.{_+_, _≤_};
-ghost use lib.ListN.{length};
+ghost use mathlib.Core.List.{[], _∷_};
+ghost use lib.ListN.{length, take, drop};
+ghost use Rattle.scan.specs.Bytes.{sameBytes};
 ghost use Rattle.scan.specs.Lists.{over};
+ghost use Rattle.scope_table.specs.Lists.{allZero};
 ghost use Rattle.scope_table.specs.Records.{rowAt, recordAt, rowOf, valueStart, valueEnd, prefixIn, valueIn};
+ghost use Rattle.scope_table.specs.Table.{builtIn, isRecord, opensBuiltIn, isChain, isRising, isWithin, isTable};
+ghost use Rattle.scope_table.specs.Answer.{changeNumbers, toldOf};
+ghost use Rattle.scope_table.specs.Lent.{holdsOf, fitsOf, formOf};
 
 // The two arrays of a resolver: its text, and its records as numbers.
 pub type Text = [u8; NamespaceResolver::TEXT];
@@ -103,6 +110,13 @@ pub enum Form {
     WrongLength,
 }
 
+// An answer as numbers, for a function that can hand out no enum: its number, and its values, 0 where it has none.
+pub struct Told {
+    pub number: usize,
+    pub first: usize,
+    pub second: usize,
+}
+
 impl NamespaceResolver {
     pub const TEXT: usize = 65536;
 
@@ -116,8 +130,22 @@ impl NamespaceResolver {
     // the deepest level there is: `u16::MAX`
     pub const DEEPEST: usize = 65535;
     // `RESERVED_NAMESPACE_XML` and `RESERVED_NAMESPACE_XMLNS`, src/name.rs, as their text stands in a resolver
-    pub const BUILT_IN: [u8; 73] =
+    pub const BUILT_IN: [u8; NamespaceResolver::BUILT_IN_LEN] =
         *b"xmlhttp://www.w3.org/XML/1998/namespacexmlnshttp://www.w3.org/2000/xmlns/";
+    // the lengths of these two prefixes and URIs, where the second begins, how long all of it is, and how many there are
+    pub const XML_PREFIX_LEN: usize = 3;
+
+    pub const XML_URI_LEN: usize = 36;
+
+    pub const XMLNS_PREFIX_LEN: usize = 5;
+
+    pub const XMLNS_URI_LEN: usize = 29;
+
+    pub const XMLNS_START: usize = 39;
+
+    pub const BUILT_IN_LEN: usize = 73;
+
+    pub const BUILT_INS: usize = 2;
 }
 
 impl NamespaceBinding {
@@ -177,5 +205,274 @@ pub fn put(text: &mut [u8], at: usize, s: &[u8])
     while i < s.len() {
         text[at + i] = s[i];
         i += 1;
+    }
+}
+
+// Whether a list of this length that is lent holds what is in use.
+fn holds(capacity: usize, lent: usize, in_use: usize) -> bool
+    ensures { λ r. ⌜ r ≡ holdsOf capacity lent in_use ⌝ }
+{
+    if capacity < lent {
+        return false;
+    }
+    if in_use <= lent {
+        return true;
+    }
+    capacity < in_use
+}
+
+// Whether lent memory of these lengths holds what is in use.
+pub fn fits(bytes: usize, numbers: usize, used: usize, count: usize) -> bool
+    ensures { λ r. ⌜ r ≡ fitsOf bytes numbers used count ⌝ }
+{
+    if !holds(NamespaceResolver::TEXT, bytes, used) {
+        return false;
+    }
+    if NamespaceResolver::RECORDS < count {
+        return numbers <= NamespaceResolver::NUMBERS;
+    }
+    holds(
+        NamespaceResolver::NUMBERS,
+        numbers,
+        NamespaceResolver::ROW * count,
+    )
+}
+
+// Whether a text is zero from `from` on, as far as it is lent. All bytes go into one by `|`, with no early exit, so that LLVM
+// makes a vector loop of it: with much memory lent, this is most of what the test of a resolver costs. That loop begins at a
+// multiple of 16 bytes, since a vector that lies across two lines of the cache takes longer to load.
+fn zero_bytes(t: &[u8], from: usize) -> bool
+    ensures { λ r. ⌜ r ≡ allZero (drop from (now (t .entry))) ⌝ }
+{
+    let mut bits: u8 = 0;
+    let mut i = from;
+    while i % 16 != 0 {
+        if t.len() <= i {
+            return bits == 0;
+        }
+        bits = bits | t[i];
+        i += 1;
+    }
+    while i < t.len() {
+        bits = bits | t[i];
+        i += 1;
+    }
+    bits == 0
+}
+
+// The same of numbers: a row begins at a multiple of 32 bytes.
+fn zero_numbers(t: &[usize], from: usize) -> bool
+    ensures { λ r. ⌜ r ≡ allZero (drop from (now (t .entry))) ⌝ }
+{
+    let mut bits: usize = 0;
+    let mut i = from;
+    while i < t.len() {
+        bits = bits | t[i];
+        i += 1;
+    }
+    bits == 0
+}
+
+// Whether each record's text starts where the one before it ends, and the last ends at `used`. A record that would end past
+// `used` is found before its lengths are added, so that no sum wraps.
+fn is_chain(records: &[usize], used: usize, count: usize) -> bool
+    requires { ⌜ rowAt count ≤ length (now records) ⌝ }
+    ensures { λ r. ⌜ r ≡ isChain (recordAt (now (records .entry))) used count ⌝ }
+{
+    let mut i: usize = 0;
+    let mut at: usize = 0;
+    while i < count {
+        let b = record_at(records, i);
+        let prefix_len = b.prefix_len;
+        let value_len = b.value_len;
+        if b.start != at {
+            return false;
+        }
+        if used - at < prefix_len {
+            return false;
+        }
+        if used - at - prefix_len < value_len {
+            return false;
+        }
+        at = at + prefix_len + value_len;
+        i += 1;
+    }
+    at == used
+}
+
+// Whether no level is below the one before it or above `top`.
+fn is_rising(records: &[usize], count: usize, top: usize) -> bool
+    requires { ⌜ rowAt count ≤ length (now records) ⌝ }
+    ensures { λ r. ⌜ r ≡ isRising (recordAt (now (records .entry))) count top ⌝ }
+{
+    let mut i: usize = 0;
+    let mut before: usize = 0;
+    while i < count {
+        let b = record_at(records, i);
+        let here = b.level;
+        if here < before {
+            return false;
+        }
+        if top < here {
+            return false;
+        }
+        before = here;
+        i += 1;
+    }
+    true
+}
+
+// Whether two texts are the same. All bits that differ go into one byte, with no early exit, so that LLVM makes a vector loop
+// of it: nearly every text that is asked about begins as it should.
+fn same_all(x: &[u8], y: &[u8]) -> bool
+    ensures { λ r. ⌜ r ≡ sameBytes (now (x .entry)) (now (y .entry)) ⌝ }
+{
+    if x.len() != y.len() {
+        return false;
+    }
+    let mut bits: u8 = 0;
+    let mut i = 0;
+    while i < x.len() {
+        bits = bits | (x[i] ^ y[i]);
+        i += 1;
+    }
+    bits == 0
+}
+
+// Whether a text begins with the built-in one.
+fn begins_built_in(text: &[u8]) -> bool
+    ensures { λ r. ⌜ r ≡ sameBytes (take 73 (now (text .entry))) builtIn ⌝ }
+{
+    if text.len() < NamespaceResolver::BUILT_IN_LEN {
+        return false;
+    }
+    let built_in = NamespaceResolver::BUILT_IN;
+    same_all(&text[..NamespaceResolver::BUILT_IN_LEN], &built_in)
+}
+
+// Whether a record has these lengths and this level.
+fn is_record(b: NamespaceBinding, prefix_len: usize, value_len: usize, level: usize) -> bool
+    ensures { λ r. ⌜ r ≡ isRecord b «prefix_len» «value_len» level ⌝ }
+{
+    if b.prefix_len != prefix_len {
+        return false;
+    }
+    if b.value_len != value_len {
+        return false;
+    }
+    b.level == level
+}
+
+// Whether a resolver opens with the built-ins.
+fn opens_built_in<'a>(text: &'a [u8], records: &'a [usize], count: usize) -> bool
+    requires { ⌜ rowAt count ≤ length (now records) ⌝ }
+    ensures { λ r. ⌜ r ≡ opensBuiltIn (now (text .entry)) (recordAt (now (records .entry))) count ⌝ }
+{
+    if count < NamespaceResolver::BUILT_INS {
+        return false;
+    }
+    if !begins_built_in(text) {
+        return false;
+    }
+    let xml = record_at(records, 0);
+    if !is_record(
+        xml,
+        NamespaceResolver::XML_PREFIX_LEN,
+        NamespaceResolver::XML_URI_LEN,
+        0,
+    ) {
+        return false;
+    }
+    let xmlns = record_at(records, 1);
+    is_record(
+        xmlns,
+        NamespaceResolver::XMLNS_PREFIX_LEN,
+        NamespaceResolver::XMLNS_URI_LEN,
+        0,
+    )
+}
+
+// Whether counts and level are within the capacity.
+fn is_within(used: usize, count: usize, level: usize) -> bool
+    ensures { λ r. ⌜ r ≡ isWithin used count level ⌝ }
+{
+    if NamespaceResolver::TEXT < used {
+        return false;
+    }
+    if NamespaceResolver::RECORDS < count {
+        return false;
+    }
+    level <= NamespaceResolver::DEEPEST
+}
+
+// Whether no call refuses what is lent with 20. What is cheap is tested first.
+fn is_table<'a>(text: &'a [u8], records: &'a [usize], head: Head) -> bool
+    requires { ⌜ fitsOf (length (now text)) (length (now records)) (head .used) (head .count) ≡ true ⌝ }
+    ensures { λ r. ⌜ r ≡ isTable (now (text .entry)) (now (records .entry)) head ⌝ }
+{
+    let used = head.used;
+    let count = head.count;
+    let level = head.level;
+    if !is_within(used, count, level) {
+        return false;
+    }
+    if !opens_built_in(text, records, count) {
+        return false;
+    }
+    if !is_chain(records, used, count) {
+        return false;
+    }
+    if !is_rising(records, count, level) {
+        return false;
+    }
+    if !zero_bytes(text, used) {
+        return false;
+    }
+    zero_numbers(records, NamespaceResolver::ROW * count)
+}
+
+// What each call tests first: whether what the head says is in use is lent, and then whether the resolver that this stands for
+// is of the form that refusal 20 asks for.
+pub fn form_in<'a>(text: &'a [u8], records: &'a [usize], head: Head) -> Form
+    ensures { λ r. ⌜ r ≡ formOf (now (text .entry)) (now (records .entry)) head ⌝ }
+{
+    let used = head.used;
+    let count = head.count;
+    if !fits(text.len(), records.len(), used, count) {
+        return Form::WrongLength;
+    }
+    if !is_table(text, records, head) {
+        return Form::Bad;
+    }
+    Form::Good
+}
+
+// The numbers of an answer.
+pub fn change_numbers(answer: NamespaceResult) -> Told
+    ensures { λ r. ⌜ r ≡ toldOf (changeNumbers answer) ⌝ }
+{
+    match answer {
+        NamespaceResult::Done => tell(0, 0, 0),
+        NamespaceResult::InvalidXmlPrefixBind(a, e) => tell(12, a, e),
+        NamespaceResult::InvalidXmlnsPrefixBind(a, e) => tell(13, a, e),
+        NamespaceResult::InvalidPrefixForXml(a, e) => tell(14, a, e),
+        NamespaceResult::InvalidPrefixForXmlns(a, e) => tell(15, a, e),
+        NamespaceResult::TooManyBindings(limit) => tell(16, limit, 0),
+        NamespaceResult::TooDeeplyNested(depth) => tell(17, depth, 0),
+        NamespaceResult::BindingTableFull => tell(18, 0, 0),
+        NamespaceResult::TextFull => tell(19, 0, 0),
+        NamespaceResult::BadResolver => tell(20, 0, 0),
+        NamespaceResult::LendMore => tell(98, 0, 0),
+        NamespaceResult::WrongLength => tell(99, 0, 0),
+    }
+}
+
+fn tell(number: usize, first: usize, second: usize) -> Told
+    ensures { λ r. ⌜ r ≡ toldOf (number ∷ first ∷ second ∷ []) ⌝ }
+{
+    Told {
+        number: number,
+        first: first,
+        second: second,
     }
 }
