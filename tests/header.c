@@ -1,6 +1,6 @@
 /* Calls each function of the header once or more, so that its parameters are held against the library and
- * not its name alone; then each with every slice empty and null. Prints what is wrong; the status is the
- * number of it. */
+ * not its name alone; then each with every slice empty and null. Prints what is wrong, and has
+ * status 1 where anything is. */
 #include "mezzulidda.h"
 
 #include <stdio.h>
@@ -217,5 +217,5 @@ int main(void) {
     attributes();
     scopes();
     empty_and_null();
-    return wrong;
+    return wrong > 0;
 }
