@@ -1,0 +1,74 @@
+/* A wrapper for each export of the library, to be linked before it: `mz_F` passes its call on to `true_mz_F`, as which the
+ * library's own is renamed. On one call that the environment names, something comes back wrong:
+ *
+ *   WRONG=mz_F AT=N WHAT=answer    the Nth answer of mz_F has its lowest bit turned
+ *                   WHAT=first     what its first argument points to has: its first byte
+ *                   WHAT=third     the same of its third
+ *   COUNT=1                        at the end standard error gets how often each was called
+ *
+ * exports.h has a line EXPORT(mz_F) for each. The return address is kept aside, so that arguments on the stack are where the
+ * function looks for them, whatever it takes; it is for one thread, and for no export that calls another. */
+#include <stdio.h>
+#include <stdlib.h>
+#include <string.h>
+
+struct fault {
+    long calls, at;
+    const char *name;
+};
+
+__attribute__((used)) void *back_to, *first, *third, **pointed;
+
+#define EXPORT(function) __attribute__((used)) struct fault fault_##function = {0, 0, #function};
+#include "exports.h"
+#undef EXPORT
+
+__asm__(".text\n"
+        "answered:\n" /* rcx has the fault */
+        " incq (%rcx)\n"
+        " movq (%rcx), %rdx\n"
+        " cmpq 8(%rcx), %rdx\n"
+        " jne 2f\n"
+        " movq pointed(%rip), %rdx\n"
+        " testq %rdx, %rdx\n"
+        " jz 1f\n"
+        " movq (%rdx), %rdx\n"
+        " xorb $1, (%rdx)\n"
+        " ret\n"
+        "1: xorq $1, %rax\n"
+        "2: ret\n");
+
+#define EXPORT(function)                                       \
+    __asm__(".globl " #function "\n" #function ":\n"           \
+            " popq back_to(%rip)\n"                            \
+            " movq %rdi, first(%rip)\n"                        \
+            " movq %rdx, third(%rip)\n"                        \
+            " call true_" #function "\n"                       \
+            " pushq back_to(%rip)\n"                           \
+            " leaq fault_" #function "(%rip), %rcx\n"          \
+            " jmp answered\n");
+#include "exports.h"
+#undef EXPORT
+
+#define EXPORT(function) &fault_##function,
+static struct fault *const faults[] = {
+#include "exports.h"
+};
+#define COUNT (sizeof faults / sizeof *faults)
+
+static void count(void) {
+    for (size_t k = 0; k < COUNT; k++)
+        fprintf(stderr, "%s %ld\n", faults[k]->name, faults[k]->calls);
+}
+
+__attribute__((constructor)) static void ask(void) {
+    const char *name = getenv("WRONG"), *at = getenv("AT"), *what = getenv("WHAT");
+    if (getenv("COUNT"))
+        atexit(count);
+    if (!name || !at || !what)
+        return;
+    pointed = !strcmp(what, "first") ? &first : !strcmp(what, "third") ? &third : NULL;
+    for (size_t k = 0; k < COUNT; k++)
+        if (!strcmp(name, faults[k]->name))
+            faults[k]->at = atol(at);
+}
