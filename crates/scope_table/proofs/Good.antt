@@ -1,20 +1,29 @@
--- The form that each call tests first: what decides it, and a good one taken apart.
-use Prim.Native.Nat.{ℕ, _≤_}
+-- The form that each call tests first: what decides it, and what a good one has. A test that passed is taken apart into the
+-- facts that it tested.
+use Prim.Native.Nat.{ℕ, zero, suc, _+_, _≤_, _<_}
 use mathlib.Core.Path.{_≡_, refl, sym, ap, _∙_}
 use mathlib.Core.Bool.{Bool, true, false, _&&_}
 use mathlib.Core.List.{List}
-use lib.Dec.{leb}
-use lib.ListN.{length}
-use borrow.Author.Tests.{leb-true}
+use mathlib.Core.Logic.{⊎-elim}
+use native.Mathlib.Nat.{eq-or-lt-of-le}
+use native.Mathlib.Omega.{arith}
+use lib.Dec.{eqb, leb}
+use lib.ListN.{length, take, drop}
+use borrow.Author.Tests.{eqb-true, leb-true}
 use Rattle.scan.specs.First.{pick}
-use Rattle.scope_table.specs.Records.{rowAt}
-use Rattle.scope_table.specs.Table.{TEXT, RECORDS, NUMBERS, DEEPEST, isWithin, isTable, validOf}
-use Rattle.scope_table.specs.Lent.{padTo, standsFor, fitsOf, lent, formOf}
+use Rattle.scan.specs.Bytes.{sameBytes}
+use Rattle.scope_table.specs.Lists.{allBelow, allZero}
+use Rattle.scope_table.specs.Records.{rowAt, recordAt, valueEnd}
+use Rattle.scope_table.specs.Table.{TEXT, RECORDS, NUMBERS, DEEPEST, builtIn, textOf, levelBefore, isRecord, opensBuiltIn, isChain, isRising, isWithin, isClear, isTable, validOf}
+use Rattle.scope_table.specs.Lent.{standsFor, holdsOf, fitsOf, lent, formOf}
 use Rattle.scope_table.specs.declared.Head.{Head}
+use Rattle.scope_table.specs.declared.NamespaceBinding.{NamespaceBinding}
+use Rattle.scope_table.specs.declared.NamespaceResolver.{NamespaceResolver}
 use Rattle.scope_table.specs.declared.Form as Found
 use Rattle.scope_table.specs.declared.Form.the-variants as Is
-use Rattle.scope_table.proofs.Lists.{and-left, and-right}
-use Rattle.scope_table.proofs.Pad.{pad-table, fits-rows}
+use Rattle.scope_table.proofs.Lists.{and-left, and-right, all-at}
+use Rattle.scope_table.proofs.Turns.{text-next, text-grows, linked, risen}
+use Rattle.scope_table.proofs.Pad.{pad-table, holds-within, fits-rows}
 
 -- Counts and level within the capacity.
 pub record Within (used count level : ℕ) : Type 0 where
@@ -36,7 +45,106 @@ within used count level e =
 pub within-rows : (bytes numbers used count level : ℕ) → fitsOf bytes numbers used count ≡ true → isWithin used count level ≡ true → rowAt count ≤ numbers
 within-rows bytes numbers used count level f e = fits-rows bytes numbers used count (within used count level e .few-records) f
 
+-- A table that refusal 20 passes.
+pub record Formed (text records : List ℕ) (head : Head) : Type 0 where
+  pub bounds : Within (head .used) (head .count) (head .level)
+  pub two : 2 ≤ head .count
+  pub begins : sameBytes (take 73 text) builtIn ≡ true
+  pub links : (k : ℕ) → k < head .count → recordAt records k .start ≡ textOf (recordAt records) k
+  pub ends : textOf (recordAt records) (head .count) ≡ head .used
+  pub rises : (k : ℕ) → k < head .count → levelBefore (recordAt records) k ≤ recordAt records k .level
+  pub tops : (k : ℕ) → k < head .count → recordAt records k .level ≤ head .level
+  pub rest-text : allZero (drop (head .used) text) ≡ true
+  pub rest-records : allZero (drop (rowAt (head .count)) records) ≡ true
+
+pub formed : (text records : List ℕ) (head : Head) → isTable text records head ≡ true → Formed text records head
+unfolding isTable opensBuiltIn isChain isRising isClear
+formed text records head e =
+    let rows = recordAt records in
+    let e₁ = and-right (isWithin (head .used) (head .count) (head .level)) _ e in
+    let opens = and-left (opensBuiltIn text rows (head .count)) _ e₁ in
+    let e₂ = and-right (opensBuiltIn text rows (head .count)) _ e₁ in
+    let chain = and-left (isChain rows (head .used) (head .count)) _ e₂ in
+    let e₃ = and-right (isChain rows (head .used) (head .count)) _ e₂ in
+    let rising = and-left (isRising rows (head .count) (head .level)) _ e₃ in
+    let clear = and-right (isRising rows (head .count) (head .level)) _ e₃ in
+    let link : ℕ → Bool = linked rows (head .used) (head .count) in
+    let rise : ℕ → Bool = risen rows (head .count) (head .level) in
+    record {
+      bounds = within (head .used) (head .count) (head .level) (and-left (isWithin (head .used) (head .count) (head .level)) _ e);
+      two = leb-true 2 (head .count) (and-left (leb 2 (head .count)) _ opens);
+      begins = and-left (sameBytes (take 73 text) builtIn) _ (and-right (leb 2 (head .count)) _ opens);
+      links = λ k l. eqb-true _ _ (all-at link (head .count) k (and-left (allBelow link (head .count)) _ chain) l);
+      ends = eqb-true _ _ (and-right (allBelow link (head .count)) _ chain);
+      rises = λ k l. leb-true _ _ (and-left (leb (levelBefore rows k) (rows k .level)) _ (all-at rise (head .count) k rising l));
+      tops = λ k l. leb-true _ _ (and-right (leb (levelBefore rows k) (rows k .level)) _ (all-at rise (head .count) k rising l));
+      rest-text = and-left (allZero (drop (head .used) text)) _ clear;
+      rest-records = and-right (allZero (drop (head .used) text)) _ clear;
+    }
+
+pub formed-valid : (x : NamespaceResolver) → validOf x ≡ true → Formed (x .text) (x .records) (x .head)
+unfolding validOf
+formed-valid x e = formed (x .text) (x .records) (x .head) e
+
+module _ (text records : List ℕ) (head : Head) (ok : Formed text records head) where
+  -- a record's text ends where the next one's starts
+  pub follows : (k : ℕ) → k < head .count → valueEnd (recordAt records k) ≡ textOf (recordAt records) (k + 1)
+  follows k h = omega (arith, ok .links k h, text-next (recordAt records) k (recordAt records k) refl)
+
+  -- and lies in the text in use
+  pub lies : (k : ℕ) → k < head .count → valueEnd (recordAt records k) ≤ head .used
+  lies k h = omega (arith, follows k h, ok .ends, text-grows (recordAt records) (k + 1) (head .count) (omega arith))
+
+  -- levels never fall
+  pub levels : (i j : ℕ) → i ≤ j → j < head .count → recordAt records i .level ≤ recordAt records j .level
+  unfolding levelBefore
+  levels i zero h l =
+      let z : i ≡ 0 = omega arith in
+      rw z (omega arith)
+  levels i (suc j) h l =
+      ⊎-elim (λ (q : i ≡ suc j). rw q (omega arith))
+      (λ (m : i < suc j). let b = levels i j (omega arith) (omega arith) in omega (arith, b, ok .rises (suc j) l))
+      (eq-or-lt-of-le h)
+
 -- What decides the form.
+
+form-by : (t v : Bool) (f : Found.Form) → pick t (pick v Is.Good Is.Bad) Is.WrongLength ≡ f → f ≡ Is.Good → (t ≡ true) × (v ≡ true)
+form-by true true f e g = (refl, refl)
+form-by true false f e g =
+    let z : _≡_ {A = ℕ} 0 1 = cc in
+    absurd (omega arith)
+form-by false v f e g =
+    let z : _≡_ {A = ℕ} 0 1 = cc in
+    absurd (omega arith)
+
+form-off : (t v : Bool) (f : Found.Form) → pick t (pick v Is.Good Is.Bad) Is.WrongLength ≡ f → f ≡ Is.Bad → (t ≡ true) × (v ≡ false)
+form-off true false f e g = (refl, refl)
+form-off true true f e g =
+    let z : _≡_ {A = ℕ} 0 1 = cc in
+    absurd (omega arith)
+form-off false v f e g =
+    let z : _≡_ {A = ℕ} 0 1 = cc in
+    absurd (omega arith)
+
+form-none : (t v : Bool) (f : Found.Form) → pick t (pick v Is.Good Is.Bad) Is.WrongLength ≡ f → f ≡ Is.WrongLength → t ≡ false
+form-none false v f e g = refl
+form-none true true f e g =
+    let z : _≡_ {A = ℕ} 0 1 = cc in
+    absurd (omega arith)
+form-none true false f e g =
+    let z : _≡_ {A = ℕ} 0 1 = cc in
+    absurd (omega arith)
+
+-- Lent memory that passes: what is in use is lent, what is lent is within the capacity, and the table is of the right form.
+pub record Ready (text records : List ℕ) (head : Head) : Type 0 where
+  pub fit : fitsOf (length text) (length records) (head .used) (head .count) ≡ true
+  pub valid : validOf (standsFor text records head) ≡ true
+  pub table : Formed text records head
+  pub bytes-most : length text ≤ TEXT
+  pub bytes-lent : head .used ≤ length text
+  pub numbers-most : length records ≤ NUMBERS
+  pub rows-lent : rowAt (head .count) ≤ length records
+
 module _ (text records : List ℕ) (head : Head) where
   abbrev pub Fits : Bool → Type 0
   Fits t = fitsOf (length text) (length records) (head .used) (head .count) ≡ t
@@ -57,3 +165,27 @@ module _ (text records : List ℕ) (head : Head) where
   pub form-good : Fits true → isTable text records head ≡ true → formOf text records head ≡ Is.Good
   unfolding formOf lent
   form-good f e = rw (f, valid-lent, e)
+
+  -- and what each form says
+  pub is-wrong : formOf text records head ≡ Is.WrongLength → Fits false
+  unfolding formOf lent
+  is-wrong e = form-none (fitsOf (length text) (length records) (head .used) (head .count)) (validOf (standsFor text records head)) _ e refl
+
+  pub is-bad : formOf text records head ≡ Is.Bad → Fits true × (validOf (standsFor text records head) ≡ false)
+  unfolding formOf lent
+  is-bad e = form-off (fitsOf (length text) (length records) (head .used) (head .count)) (validOf (standsFor text records head)) _ e refl
+
+  pub ready-by : Fits true → validOf (standsFor text records head) ≡ true → Ready text records head
+  unfolding fitsOf
+  ready-by f v =
+      let t = formed text records head (sym valid-lent ∙ v) in
+      let b = holds-within TEXT (length text) (head .used) (t .bounds .few-bytes) (and-left (holdsOf TEXT (length text) (head .used)) _ f) in
+      let m : rowAt (head .count) ≤ NUMBERS = omega (arith, t .bounds .few-records) in
+      let n = holds-within NUMBERS (length records) (rowAt (head .count)) m (and-right (holdsOf TEXT (length text) (head .used)) _ f) in
+      record { fit = f; valid = v; table = t; bytes-most = b .0; bytes-lent = b .1; numbers-most = n .0; rows-lent = n .1 }
+
+  pub ready : formOf text records head ≡ Is.Good → Ready text records head
+  unfolding formOf lent
+  ready e =
+      let g = form-by (fitsOf (length text) (length records) (head .used) (head .count)) (validOf (standsFor text records head)) _ e refl in
+      ready-by (g .0) (g .1)

@@ -4,3 +4,5 @@ pub mod Rows
 pub mod Turns
 pub mod Pad
 pub mod Good
+pub mod Calls
+pub mod Full
