@@ -1,0 +1,189 @@
+-- The laws of a step on tags and states, by computation: a row for each answer of the table "Numbers and what they leave",
+-- and each law applied where its premises are met.
+use Prim.Native.Nat.{ℕ, _+_, _≤_, _<_}
+use Prim.Native.String.{String}
+use mathlib.Core.Path.{_≡_, refl, ap, subst}
+use mathlib.Core.Bool.{Bool, true, false, true≢false}
+use mathlib.Core.List.{List, [], _∷_, map}
+use native.Mathlib.Omega.{arith}
+use lib.ListN.{length, getD, set, replicate, length-replicate, getD-replicate}
+use Rattle.scan.specs.First.{stopOr, firstOf, firstTo, firstFrom}
+use Rattle.scan.specs.Bytes.{isSpace, notSpace, endsKey, isByte, part, sameBytes, bytesFrom, bytes}
+use Rattle.keys.specs.Keys.{capacity, keyGood, keyBad, countGood, tableGood, nameAt, sameKey, oldestOf, earlierOf, checkedBy, checkedOf, writtenBy, countBy}
+use Rattle.attributes.specs.declared.Span.{Span}
+use Rattle.attributes.specs.declared.Place.{Place}
+use Rattle.attributes.specs.declared.Place.the-variants.{Done, Next, SkipValue, SkipEqValue}
+use Rattle.attributes.specs.declared.Start.the-variants.{From}
+use Rattle.attributes.specs.declared.KeyRead.the-variants.{Valued}
+use Rattle.attributes.specs.declared.Answer.{Answer}
+use Rattle.attributes.specs.declared.Answer.the-variants.{End, DoubleQ, SingleQ, Unquoted, Empty, ExpectedEq, ExpectedValue, UnquotedValue, ExpectedQuote, Duplicated, KeyTableFull, BadState}
+use Rattle.attributes.specs.declared.IterState.{IterState}
+use Rattle.attributes.specs.declared.Step.{Step}
+use Rattle.attributes.specs.Read.{span, isAt, isQuote, skipTo, skipOf, recoverOf, keyEq, keyTo, keyFrom, keyAt, quoted, closedOf, quotedTo, quotedOf, unquotedTo, otherOf, valueIn, valueFrom, valueAt}
+use Rattle.attributes.specs.Next.{checkOf, keptBy, placeAt, bareBy, bareTo, bareOf, valuedBy, valuedTo, valuedOf, readKey, readAt, stepFrom, stepOf, placeGood, keysOf, stateGood, noKeys, badReading, leaves, nextOf, opened}
+use Rattle.law_steps.specs.Steps.{FullTables, Broken, outsideKey, SevenExactly, valued, NoRoom, SixExactly, movedTo, movedWith, emptied, RecordsIts, Left, LeavesExact, EndStays, Forward, StepForward}
+use Rattle.law_steps.proofs.Leaves.{leaves-exact}
+use Rattle.law_steps.proofs.Refusals.{six-exactly, seven-exactly}
+use Rattle.law_steps.proofs.Steps.{end-stays, step-forward}
+
+-- a state of these parts, the first two places of each table given and the others zero
+abbrev at : Place → (html checks : Bool) → (start start' end end' count : ℕ) → IterState
+at place html checks start start' end end' count =
+    record {
+      place = place;
+      html = html;
+      «check_duplicates» = checks;
+      starts = start ∷ start' ∷ replicate 254 0;
+      ends = end ∷ end' ∷ replicate 254 0;
+      count = count;
+    }
+
+-- as many keys as the capacity, all of them the tag's first byte
+abbrev crowded : Place → Bool → IterState
+crowded place html =
+    record {
+      place = place;
+      html = html;
+      «check_duplicates» = true;
+      starts = replicate capacity 0;
+      ends = replicate capacity 1;
+      count = capacity;
+    }
+
+-- a tag, a state, and what the step answers and leaves
+record Row : Type 0 where
+  tag : String
+  state : IterState
+  answer : Answer
+  left : IterState
+
+abbrev row : String → IterState → Answer → IterState → Row
+row tag state answer left = record { tag = tag; state = state; answer = answer; left = left }
+
+abbrev table : List Row
+table =
+    -- the end: only whitespace follows; done; past the end; a skip with no whitespace after it
+    row "a \t" (at (Next 1) false true 0 7 1 7 1) End (at Done false true 0 7 1 7 1)
+    ∷ row "a" (at Done true false 0 7 1 7 1) End (at Done true false 0 7 1 7 1)
+    ∷ row "a" (at (Next 2) false true 0 7 1 7 1) End (at (Next 2) false true 0 7 1 7 1)
+    ∷ row "a=1" (at (SkipValue 2) false true 0 7 1 7 1) End (at (SkipValue 2) false true 0 7 1 7 1)
+    -- 1: at pos, and done where pos is the length
+    ∷ row "a b=''" (at (Next 0) false true 7 8 7 9 0) (ExpectedEq 2) (at (Next 2) false true 7 8 7 9 0)
+    ∷ row "a " (at (Next 0) false true 7 8 7 9 0) (ExpectedEq 2) (at Done false true 7 8 7 9 0)
+    -- 2, 3, 4: recorded, at the first unused place alone
+    ∷ row "a= " (at (Next 0) false true 7 8 7 9 0) (ExpectedValue 3) (at Done false true 0 8 1 9 1)
+    ∷ row "a=1" (at (Next 0) false true 7 8 7 9 0) (UnquotedValue 2) (at (SkipValue 2) false true 0 8 1 9 1)
+    ∷ row "a='1" (at (Next 0) true true 7 8 7 9 0) (ExpectedQuote 4 39) (at Done true true 0 8 1 9 1)
+    -- and while checks are off, not
+    ∷ row "a=1" (at (Next 0) false false 7 8 7 9 0) (UnquotedValue 2) (at (SkipValue 2) false false 7 8 7 9 0)
+    -- 5: from the `=`; a bare one at the next place, or done
+    ∷ row "a b a =1" (at (Next 3) false true 0 8 1 9 1) (Duplicated 4 0) (at (SkipEqValue 6) false true 0 8 1 9 1)
+    ∷ row "a a b" (at (Next 1) true true 0 8 1 9 1) (Duplicated 2 0) (at (Next 4) true true 0 8 1 9 1)
+    ∷ row "a a " (at (Next 1) true true 0 8 1 9 1) (Duplicated 2 0) (at Done true true 0 8 1 9 1)
+    -- 6, with `=` and bare
+    ∷ row "a b=''" (crowded (Next 1) false) (KeyTableFull 2) (crowded Done false)
+    ∷ row "a b" (crowded (Next 1) true) (KeyTableFull 2) (crowded Done true)
+    -- with a full table a key that is recorded already is 5, and a bare XML key 1
+    ∷ row "a a=''" (crowded (Next 1) false) (Duplicated 2 0) (crowded (SkipEqValue 3) false)
+    ∷ row "a b c" (crowded (Next 1) false) (ExpectedEq 4) (crowded (Next 4) false)
+    -- 7: all zero
+    ∷ row "a" (at (SkipValue 1) true false 0 8 1 9 1) BadState (at Done true false 0 0 0 0 0)
+    -- attributes
+    ∷ row "a=\"1\"" (at (Next 0) false true 7 8 7 9 0) (DoubleQ (span 0 1) (span 3 4)) (at (Next 5) false true 0 8 1 9 1)
+    ∷ row "a b='2'" (at (Next 1) false true 0 8 1 9 1) (SingleQ (span 2 3) (span 5 6)) (at (Next 7) false true 0 2 1 3 2)
+    ∷ row "a=1" (at (Next 0) true true 7 8 7 9 0) (Unquoted (span 0 1) (span 2 3)) (at (Next 3) true true 0 8 1 9 1)
+    ∷ row "a b" (at (Next 0) true true 7 8 7 9 0) (Empty (span 0 1)) (at (Next 2) true true 0 8 1 9 1)
+    ∷ []
+
+abbrev computed : Row → Step
+computed r = nextOf (bytes (r .tag)) (r .state)
+
+abbrev written : Row → Step
+written r = record { answer = r .answer; state = r .left }
+
+rows : map computed table ≡ map written table
+unfolding stopOr firstOf firstTo firstFrom isSpace notSpace endsKey isByte part sameBytes bytesFrom bytes keyGood keyBad countGood tableGood nameAt sameKey oldestOf earlierOf checkedBy checkedOf writtenBy countBy isAt isQuote skipTo skipOf recoverOf keyEq keyTo keyFrom keyAt quoted closedOf quotedTo quotedOf unquotedTo otherOf valueIn valueFrom valueAt checkOf keptBy placeAt bareBy bareTo bareOf valuedBy valuedTo valuedOf readKey readAt stepFrom stepOf placeGood keysOf stateGood noKeys badReading leaves nextOf
+rows = refl
+
+-- Each law, applied.
+
+abbrev tag : String → List ℕ
+tag t = bytes t
+
+-- a recorded key outside the tag is 7, though the place is done and checks are off
+pub seven-example : nextOf (tag "ab") (at Done false false 0 8 3 9 1) .answer ≡ BadState
+unfolding SevenExactly bytes bytesFrom
+seven-example = seven-exactly (tag "ab") (at Done false false 0 8 3 9 1) (record { starts = refl; ends = refl }) .1 (outsideKey 0 (omega arith) (omega arith))
+
+-- and what is so answered has such a key
+pub seven-back : Broken (tag "ab") (at Done false false 0 8 3 9 1)
+unfolding SevenExactly
+seven-back = seven-exactly (tag "ab") (at Done false false 0 8 3 9 1) (record { starts = refl; ends = refl }) .0 seven-example
+
+full-tables : (place : Place) (html : Bool) → FullTables (crowded place html)
+full-tables place html = record { starts = length-replicate {A = ℕ} capacity 0; ends = length-replicate {A = ℕ} capacity 1 }
+
+-- The table is full and `b` is new: every premise of 6 is met, and it comes, with the start of `b`.
+abbrev six-tag : List ℕ
+six-tag = bytes "a b=''"
+
+six-whole : Broken six-tag (crowded (Next 1) false) → ⊥
+unfolding SevenExactly stopOr firstOf firstTo firstFrom isSpace notSpace endsKey isByte part sameBytes bytesFrom bytes keyGood keyBad countGood tableGood nameAt sameKey oldestOf earlierOf checkedBy checkedOf writtenBy countBy isAt isQuote skipTo skipOf recoverOf keyEq keyTo keyFrom keyAt quoted closedOf quotedTo quotedOf unquotedTo otherOf valueIn valueFrom valueAt checkOf keptBy placeAt bareBy bareTo bareOf valuedBy valuedTo valuedOf readKey readAt stepFrom stepOf placeGood keysOf stateGood noKeys badReading leaves nextOf
+six-whole b =
+    let e : KeyTableFull 2 ≡ BadState = seven-exactly six-tag (crowded (Next 1) false) (full-tables (Next 1) false) .1 b in
+    let z : _≡_ {A = ℕ} 0 1 = cc in omega arith
+
+six-new : (k : ℕ) → k < capacity → nameAt six-tag (replicate capacity 0) (replicate capacity 1) k ≡ part six-tag 2 3 → ⊥
+unfolding nameAt part bytes bytesFrom
+six-new k lt e =
+    let h : nameAt six-tag (replicate capacity 0) (replicate capacity 1) k ≡ bytes "a" = rw (getD-replicate {A = ℕ} capacity k 0 0 lt, getD-replicate {A = ℕ} capacity k 1 0 lt) in
+    let z : _≡_ {A = ℕ} 97 98 = cc in omega arith
+
+pub six-example : nextOf six-tag (crowded (Next 1) false) .answer ≡ KeyTableFull 2
+unfolding SixExactly stopOr firstOf firstTo firstFrom isSpace notSpace endsKey bytesFrom bytes isAt recoverOf keyEq keyTo keyFrom keyAt
+six-example =
+    six-exactly six-tag (crowded (Next 1) false) 2 (full-tables (Next 1) false) .1
+    (record {
+      whole = six-whole;
+      checks = refl;
+      key = span 2 3;
+      due = valued 3 (record { from = 1; goes = refl; reads = refl });
+      full = refl;
+      new = six-new;
+      start = refl;
+    })
+
+-- 3 leaves skip-value at pos with its key recorded; that key is `a`.
+abbrev three-tag : List ℕ
+three-tag = bytes "a=1 b='2'"
+
+pub three-leaves : RecordsIts three-tag (opened 0 false true) (nextOf three-tag (opened 0 false true) .state) (SkipValue 2)
+unfolding LeavesExact Left stopOr firstOf firstTo firstFrom isSpace notSpace endsKey isByte part sameBytes bytesFrom bytes keyGood keyBad countGood tableGood nameAt sameKey oldestOf earlierOf checkedBy checkedOf writtenBy countBy isAt isQuote skipTo skipOf recoverOf keyEq keyTo keyFrom keyAt quoted closedOf quotedTo quotedOf unquotedTo otherOf valueIn valueFrom valueAt checkOf keptBy placeAt bareBy bareTo bareOf valuedBy valuedTo valuedOf readKey readAt stepFrom stepOf placeGood keysOf stateGood noKeys badReading leaves nextOf opened
+three-leaves = leaves-exact three-tag (opened 0 false true)
+
+key-there : (from eq : ℕ) (key : Span) → From 0 ≡ From from → keyAt three-tag from ≡ Valued key eq → key ≡ span 0 1
+unfolding stopOr firstOf firstTo firstFrom isSpace notSpace endsKey bytesFrom bytes isAt keyEq keyTo keyFrom keyAt
+key-there from eq key goes reads =
+    let zero : from ≡ 0 = cc in
+    let here : Valued (span 0 1) 1 ≡ Valued key eq = subst (λ (o : ℕ). keyAt three-tag o ≡ Valued key eq) zero reads in
+    cc
+
+pub three-key : three-leaves .key ≡ span 0 1
+unfolding recoverOf opened bytes bytesFrom
+three-key = key-there (three-leaves .due .from) (three-leaves .eq) (three-leaves .key) (three-leaves .due .goes) (three-leaves .due .reads)
+
+-- A skip with no whitespace after it is the end, and stays so.
+pub end-example : nextOf (tag "a=1") (nextOf (tag "a=1") (at (SkipValue 2) false true 0 8 1 9 1) .state) .answer ≡ End
+unfolding EndStays stopOr firstOf firstTo firstFrom isSpace bytesFrom bytes keyGood keyBad countGood tableGood skipTo skipOf recoverOf stepFrom stepOf placeGood keysOf stateGood leaves nextOf
+end-example = ap (λ (x : Step). x .answer) (end-stays (tag "a=1") (at (SkipValue 2) false true 0 8 1 9 1) refl)
+
+-- 5 leaves a place past the one where its reading began.
+abbrev five : IterState
+five = at (Next 3) false true 0 8 1 9 1
+
+pub forward-example : Forward (tag "a b a =1") (Next 3) (SkipEqValue 6)
+unfolding StepForward stopOr firstOf firstTo firstFrom isSpace notSpace endsKey isByte part sameBytes bytesFrom bytes keyGood keyBad countGood tableGood nameAt sameKey oldestOf earlierOf checkedBy checkedOf writtenBy countBy isAt isQuote skipTo skipOf recoverOf keyEq keyTo keyFrom keyAt quoted closedOf quotedTo quotedOf unquotedTo otherOf valueIn valueFrom valueAt checkOf keptBy placeAt bareBy bareTo bareOf valuedBy valuedTo valuedOf readKey readAt stepFrom stepOf placeGood keysOf stateGood noKeys badReading leaves nextOf
+forward-example =
+    step-forward (tag "a b a =1") five
+    (λ (e : Duplicated 4 0 ≡ End). let z : _≡_ {A = ℕ} 0 1 = cc in omega arith)
+    (λ (e : Duplicated 4 0 ≡ BadState). let z : _≡_ {A = ℕ} 0 1 = cc in omega arith)

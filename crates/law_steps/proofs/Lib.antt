@@ -1,0 +1,4 @@
+pub mod Leaves
+pub mod Refusals
+pub mod Steps
+pub mod Examples
