@@ -25,7 +25,7 @@ use Rattle.attributes.specs.Read.{span, found}
 use Rattle.attributes.specs.Next.{Keys, reading, checkOf, keptBy, valuedBy, valuedTo, valuedOf, readKey, readAt, stepFrom, stepOf, placeGood, keysOf, stateGood, noKeys, leaves, nextOf, opened}
 use Rattle.attributes.specs.Run.{isEnd, consUnless, runOf, answersOf}
 use Rattle.attributes.proofs.Paths.{next-from, key-none}
-use Rattle.wellformed.specs.Grammar.{each, Quote, double, single, Lacks, Attribute, attributeThen, AttributeBy, Body, attributesThen, textOf, AttributesBy, BodyBy, Absent, Distinct}
+use Rattle.wellformed.specs.Grammar.{each, Quote, double, single, Attribute, attributeThen, Body, attributesThen, textOf, Quoted, AllQuoted, QuotedBody, Absent, Distinct}
 use Rattle.wellformed.specs.Expected.{nameStart, nameEnd, next, inQuotes, attributeOf, attributesOf}
 use Rattle.wellformed.proofs.Cursor.{each-fails, word-at}
 use Rattle.wellformed.proofs.Tests.{space-fails}
@@ -64,7 +64,7 @@ module _ (s : List ℕ) (html checks : Bool) where
   unfolding nextOf stateGood placeGood stepOf keysOf stepFrom
   next-reads o keys i h = rw (in-table (length s) (keys .starts) (keys .ends) (keys .count) i, sym (next-from s o h))
 
-  module _ (o : ℕ) (keys : Keys) (a : Attribute) (more : List Attribute) (rest : List ℕ) (here : drop o s ≡ attributeThen a rest) (fine : AttributeBy Lacks a) (ready : Awaits s checks keys (a ∷ more)) where
+  module _ (o : ℕ) (keys : Keys) (a : Attribute) (more : List Attribute) (rest : List ℕ) (here : drop o s ≡ attributeThen a rest) (fine : Quoted a) (ready : Awaits s checks keys (a ∷ more)) where
     abbrev key : Span
     key = span (nameStart o a) (nameEnd o a)
 
@@ -141,8 +141,8 @@ module _ (s : List ℕ) (html checks : Bool) where
       let e = only-space s o w here h le in
       rw (sym (key-none s o (firstFrom notSpace s o) refl (omega arith)))
 
-  reads-all : (more : List Attribute) (w : List ℕ) (o : ℕ) (keys : Keys) (n : ℕ) → AttributesBy Lacks more → each isSpace w ≡ true → (checks ≡ true → Distinct more) → Awaits s checks keys more → drop o s ≡ attributesThen more w → o ≤ length s → length more < n → runOf n s (stateAt o keys) ≡ attributesOf o more
-  unfolding runOf attributesOf attributesThen AttributesBy Distinct isEnd consUnless leaves attributeOf
+  reads-all : (more : List Attribute) (w : List ℕ) (o : ℕ) (keys : Keys) (n : ℕ) → AllQuoted more → each isSpace w ≡ true → (checks ≡ true → Distinct more) → Awaits s checks keys more → drop o s ≡ attributesThen more w → o ≤ length s → length more < n → runOf n s (stateAt o keys) ≡ attributesOf o more
+  unfolding runOf attributesOf attributesThen AllQuoted Distinct isEnd consUnless leaves attributeOf
   reads-all more w o keys zero fine h distinct ready here le lt = absurd (omega arith)
   reads-all [] w o keys (suc n) fine h distinct ready here le lt =
       rw (next-reads o keys (ready .inside) le, reads-none o keys w here h le)
@@ -178,7 +178,7 @@ module _ (pre : List ℕ) (b : Body) (html checks : Bool) where
   Read = answersOf (pre ++ textOf b) (opened (length pre) html checks) ≡ attributesOf (length pre) (b .attributes)
 
   -- Only with checks on do the names and their number matter.
-  pub body-reads : BodyBy Lacks b → (checks ≡ true → (length (b .attributes) ≤ capacity) × Distinct (b .attributes)) → Read
+  pub body-reads : QuotedBody b → (checks ≡ true → (length (b .attributes) ≤ capacity) × Distinct (b .attributes)) → Read
   unfolding answersOf opened textOf
   body-reads fine names =
       let s = pre ++ textOf b in

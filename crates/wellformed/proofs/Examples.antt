@@ -1,15 +1,27 @@
--- Texts that are bodies and texts that are none, and one body with the answers that it is due, by computation: the
--- premises of `well-formed-reads` are met by real tags.
+-- Texts that are bodies and texts that are none, by computation; and each theorem on reading applied to a tag that meets its
+-- premises, with the answers that it then promises.
+use Prim.Native.Nat.{ℕ}
 use Prim.Native.String.{String}
 use mathlib.Core.Path.{_≡_, refl}
 use mathlib.Core.Bool.{Bool, true, false}
-use mathlib.Core.List.{List, [], _∷_, map}
-use Rattle.scan.specs.Bytes.{isSpace, bytesFrom, bytes}
-use Rattle.attributes.specs.declared.Answer.the-variants.{DoubleQ, SingleQ}
-use Rattle.attributes.specs.Read.{span}
-use Rattle.wellformed.specs.Grammar.{isIn, oneOf, nameByte, double, single, quoteByte, valueByte, attributeThen, Body, attributesThen, textOf}
+use mathlib.Core.List.{List, [], _∷_, _++_, map}
+use native.Mathlib.Omega.{arith}
+use Rattle.scan.specs.First.{stopOr, firstOf, firstTo, firstFrom}
+use Rattle.scan.specs.Bytes.{isSpace, notSpace, endsKey, isByte, part, sameBytes, bytesFrom, bytes}
+use Rattle.keys.specs.Keys.{keyGood, keyBad, countGood, tableGood, nameAt, sameKey, oldestOf, earlierOf, checkedBy, checkedOf, writtenBy, countBy}
+use Rattle.attributes.specs.declared.Start.the-variants.{From}
+use Rattle.attributes.specs.declared.Answer.the-variants.{DoubleQ, SingleQ, Duplicated}
+use Rattle.attributes.specs.declared.IterState.{IterState}
+use Rattle.attributes.specs.Read.{span, isAt, isQuote, skipTo, skipOf, recoverOf, keyEq, keyTo, keyFrom, keyAt, quoted, closedOf, quotedTo, quotedOf, unquotedTo, otherOf, valueIn, valueFrom, valueAt}
+use Rattle.attributes.specs.Next.{checkOf, keptBy, placeAt, bareBy, bareTo, bareOf, valuedBy, valuedTo, valuedOf, readKey, readAt, stepFrom, stepOf, placeGood, keysOf, stateGood, noKeys, badReading, leaves, nextOf, opened}
+use Rattle.attributes.specs.Run.{answersOf}
+use Rattle.parts.specs.Parts.{keyPart, valuePart}
+use Rattle.wellformed.specs.Grammar.{each, some, isIn, oneOf, nameByte, double, single, quoteByte, valueByte, byte, pieceText, isPiece, valueText, arePieces, attributeThen, Body, attributesThen, textOf, AttributesBy, WellFormed, Lacks, AllQuoted, QuotedBody, Absent, Distinct}
 use Rattle.wellformed.specs.Expected.{nameStart, nameEnd, valueStart, valueEnd, next, inQuotes, attributeOf, attributesOf}
 use Rattle.wellformed.specs.Accept.{after, passes, accepts, isBody}
+use Rattle.wellformed.specs.Resume.{fromOrEnded, fromWhitespace, afterKey, afterDuplicate, resumesAt}
+use Rattle.wellformed.proofs.WellFormed.{well-formed-reads, quoted-reads, unchecked-reads, well-formed-parts}
+use Rattle.wellformed.proofs.Resume.{resume-exact}
 
 abbrev bodies : List String
 bodies =
@@ -39,6 +51,7 @@ pub grammar-examples : (map verdict bodies ≡ true ∷ true ∷ true ∷ true �
 unfolding isBody accepts passes after isSpace bytes bytesFrom isIn oneOf nameByte quoteByte valueByte
 grammar-examples = (refl, refl)
 
+-- A body of the productions, whose second value has the other quotes in it.
 abbrev shown : Body
 shown =
     record {
@@ -48,7 +61,111 @@ shown =
       after = bytes " ";
     }
 
--- its text, and its answers from 0
-pub body-example : (textOf shown ≡ bytes " a=\"1\" b = 'x \"y\"' ") × (attributesOf 0 (shown .attributes) ≡ DoubleQ (span 1 2) (span 4 5) ∷ SingleQ (span 7 8) (span 12 17) ∷ [])
+shown-text : textOf shown ≡ bytes " a=\"1\" b = 'x \"y\"' "
+unfolding bytes bytesFrom textOf attributesThen attributeThen quoteByte
+shown-text = refl
+
+shown-is : WellFormed shown
+unfolding AttributesBy some each isSpace isIn oneOf nameByte bytes bytesFrom arePieces isPiece valueByte quoteByte valueText pieceText
+shown-is =
+    record {
+      attributes = (
+        record { before = refl; name = refl; beforeEq = refl; afterEq = refl; value = record { pieces = byte 49 ∷ []; are = refl; text = refl } },
+        (
+          record {
+            before = refl;
+            name = refl;
+            beforeEq = refl;
+            afterEq = refl;
+            value = record { pieces = byte 120 ∷ byte 32 ∷ byte 34 ∷ byte 121 ∷ byte 34 ∷ []; are = refl; text = refl };
+          },
+          tt,
+        ),
+      );
+      after = refl;
+    }
+
+-- two names that differ in their first byte
+apart : (a b : ℕ) (xs ys : List ℕ) → (a ≡ b → ⊥) → a ∷ xs ≡ b ∷ ys → ⊥
+apart a b xs ys n e = n cc
+
+shown-distinct : Distinct (shown .attributes)
+unfolding Distinct Absent bytes bytesFrom
+shown-distinct = ((λ e. apart 97 98 [] [] (λ n. omega arith) e, tt), (tt, tt))
+
+-- Read after a tag's name, `el`, in XML mode with checks on.
+pub well-formed-example : answersOf (bytes "el a=\"1\" b = 'x \"y\"' ") (opened 2 false true) ≡ DoubleQ (span 3 4) (span 6 7) ∷ SingleQ (span 9 10) (span 14 19) ∷ []
 unfolding bytes bytesFrom textOf attributesThen attributeThen quoteByte nameStart nameEnd valueStart valueEnd next inQuotes attributeOf attributesOf
-body-example = (refl, refl)
+well-formed-example = well-formed-reads (bytes "el") shown shown-is (omega arith) shown-distinct false true .0
+
+-- and what is marked: the names, and the values
+pub parts-example :
+    let s = bytes "el" ++ textOf shown in
+    let answers = answersOf s (opened 2 false true) in
+    (map (keyPart s) answers ≡ bytes "a" ∷ bytes "b" ∷ []) × (map (valuePart s) answers ≡ bytes "1" ∷ bytes "x \"y\"" ∷ [])
+unfolding bytes bytesFrom
+parts-example = well-formed-parts (bytes "el") shown shown-is (omega arith) shown-distinct false true
+
+-- No whitespace before the first attribute, nor between the two; and a value that the productions refuse.
+abbrev close : Body
+close =
+    record {
+      attributes = record { before = []; name = bytes "a"; beforeEq = []; afterEq = []; quote = double; value = bytes "1" }
+          ∷ record { before = []; name = bytes "b"; beforeEq = []; afterEq = []; quote = single; value = bytes "<&" }
+          ∷ [];
+      after = [];
+    }
+
+close-is : QuotedBody close
+unfolding AllQuoted Lacks some each isSpace isIn oneOf nameByte bytes bytesFrom quoteByte
+close-is =
+    record {
+      attributes = (
+        record { before = refl; name = refl; beforeEq = refl; afterEq = refl; value = refl },
+        (record { before = refl; name = refl; beforeEq = refl; afterEq = refl; value = refl }, tt),
+      );
+      after = refl;
+    }
+
+close-distinct : Distinct (close .attributes)
+unfolding Distinct Absent bytes bytesFrom
+close-distinct = ((λ e. apart 97 98 [] [] (λ n. omega arith) e, tt), (tt, tt))
+
+pub quoted-example : answersOf (bytes "a=\"1\"b='<&'") (opened 0 false true) ≡ DoubleQ (span 0 1) (span 3 4) ∷ SingleQ (span 5 6) (span 8 10) ∷ []
+unfolding bytes bytesFrom textOf attributesThen attributeThen quoteByte nameStart nameEnd valueStart valueEnd next inQuotes attributeOf attributesOf
+quoted-example = quoted-reads [] close close-is (omega arith) close-distinct false true
+
+-- One name twice, in HTML mode with checks off.
+abbrev twice : Body
+twice =
+    record {
+      attributes = record { before = bytes " "; name = bytes "a"; beforeEq = []; afterEq = []; quote = single; value = bytes "1" }
+          ∷ record { before = bytes " "; name = bytes "a"; beforeEq = []; afterEq = []; quote = double; value = [] }
+          ∷ [];
+      after = [];
+    }
+
+twice-is : QuotedBody twice
+unfolding AllQuoted Lacks some each isSpace isIn oneOf nameByte bytes bytesFrom quoteByte
+twice-is =
+    record {
+      attributes = (
+        record { before = refl; name = refl; beforeEq = refl; afterEq = refl; value = refl },
+        (record { before = refl; name = refl; beforeEq = refl; afterEq = refl; value = refl }, tt),
+      );
+      after = refl;
+    }
+
+pub unchecked-example : answersOf (bytes " a='1' a=\"\"") (opened 0 true false) ≡ SingleQ (span 1 2) (span 4 5) ∷ DoubleQ (span 7 8) (span 10 10) ∷ []
+unfolding bytes bytesFrom textOf attributesThen attributeThen quoteByte nameStart nameEnd valueStart valueEnd next inQuotes attributeOf attributesOf
+unchecked-example = unchecked-reads [] twice twice-is true
+
+-- A duplicate whose value has whitespace: reading resumes in that value, at 10, and not after it.
+abbrev again : IterState
+again = nextOf (bytes "a='1' a=\"2 3\" b='4'") (opened 0 false true) .state
+
+pub resume-example :
+    let s = bytes "a='1' a=\"2 3\" b='4'" in
+    (nextOf s again .answer ≡ Duplicated 6 0) × (recoverOf s (nextOf s again .state .place) ≡ From 10)
+unfolding stopOr firstOf firstTo firstFrom isSpace notSpace endsKey isByte part sameBytes bytesFrom bytes keyGood keyBad countGood tableGood nameAt sameKey oldestOf earlierOf checkedBy checkedOf writtenBy countBy isAt isQuote skipTo skipOf recoverOf keyEq keyTo keyFrom keyAt quoted closedOf quotedTo quotedOf unquotedTo otherOf valueIn valueFrom valueAt checkOf keptBy placeAt bareBy bareTo bareOf valuedBy valuedTo valuedOf readKey readAt stepFrom stepOf placeGood keysOf stateGood noKeys badReading leaves nextOf opened fromOrEnded fromWhitespace afterKey afterDuplicate resumesAt
+resume-example = (refl, resume-exact (bytes "a='1' a=\"2 3\" b='4'") again)

@@ -6,6 +6,6 @@ pub mod Bodies
 pub mod Values
 pub mod WellFormed
 pub mod Accepted
-pub mod Examples
 pub mod Resume
 pub mod Ends
+pub mod Examples

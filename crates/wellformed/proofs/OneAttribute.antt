@@ -13,7 +13,7 @@ use Rattle.attributes.specs.declared.Place.the-variants.{Next}
 use Rattle.attributes.specs.declared.KeyRead.the-variants.{Valued}
 use Rattle.attributes.specs.Read.{span, found, isQuote, keyAt, quoted, closedOf, quotedOf, valueAt}
 use Rattle.attributes.proofs.Paths.{key-valued, value-quoted, quoted-closed}
-use Rattle.wellformed.specs.Grammar.{each, nameByte, Quote, double, single, quoteByte, Lacks, Attribute, AttributeBy, attributeThen}
+use Rattle.wellformed.specs.Grammar.{each, nameByte, Quote, double, single, quoteByte, Lacks, Attribute, attributeThen, Quoted}
 use Rattle.wellformed.specs.Expected.{nameStart, nameEnd, valueStart, valueEnd, next, inQuotes}
 use Rattle.wellformed.proofs.Cursor.{each-fails, some-each, some-length, some-first, move, part-is, rest-at, rest-inside, stops}
 use Rattle.wellformed.proofs.Tests.{space-fails, space-ends, name-content, name-goes-on, eq-ends, quote-content, quote-is, quote-closes, no-quote}
@@ -29,7 +29,7 @@ unfolding each
 ends-at-eq [] rest h = (omega arith, eq-ends)
 ends-at-eq (x ∷ w) rest h = (omega arith, space-ends x (both (isSpace x) (each isSpace w) h .0))
 
-module _ (s : List ℕ) (o : ℕ) (a : Attribute) (rest : List ℕ) (here : drop o s ≡ attributeThen a rest) (fine : AttributeBy Lacks a) where
+module _ (s : List ℕ) (o : ℕ) (a : Attribute) (rest : List ℕ) (here : drop o s ≡ attributeThen a rest) (fine : Quoted a) where
   abbrev q : ℕ
   q = quoteByte (a .quote)
 
@@ -124,7 +124,7 @@ module _ (s : List ℕ) (o : ℕ) (a : Attribute) (rest : List ℕ) (here : drop
   key-read =
       sym (key-valued s o (nameStart o a)
       (sym (stops s o (a .before) r₁ at-start r₁-some notSpace
-      (each-fails notSpace isSpace space-fails (a .before) (some-each isSpace (a .before) (fine .before)))
+      (each-fails notSpace isSpace space-fails (a .before) (fine .before))
       (ap notSpace (List·getD-append (a .name) r₂ 0 0 name-some) ∙ name-content (getD (a .name) 0 0) (some-first nameByte (a .name) (fine .name)))
       o (omega arith) (omega arith)))
       (rest-inside s o (a .before) r₁ at-start r₁-some)

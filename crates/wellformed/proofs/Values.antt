@@ -1,4 +1,5 @@
--- What the productions take for a value lacks its own quote: no piece of it has one.
+-- What the productions take for a value lacks its own quote: no piece of it has one. So a body of the productions is one
+-- that reading asks for.
 use Prim.Native.Nat.{ℕ}
 use mathlib.Core.Path.{_≡_, refl}
 use mathlib.Core.Bool.{Bool, true, not, _&&_, false≢true}
@@ -6,7 +7,7 @@ use mathlib.Core.List.{List, [], _∷_, _++_}
 use lib.Dec.{eqb}
 use Rattle.scan.specs.Bytes.{isSpace, bytesFrom, bytes}
 use Rattle.scan.proofs.Bytes.{both}
-use Rattle.wellformed.specs.Grammar.{each, some, isIn, oneOf, nameByte, digit, hexDigit, Quote, double, single, quoteByte, valueByte, Piece, byte, entity, decimal, hex, pieceText, isPiece, valueText, arePieces, IsValue, Lacks, Attribute, AttributesBy, Body, BodyBy}
+use Rattle.wellformed.specs.Grammar.{each, some, isIn, oneOf, nameByte, digit, hexDigit, Quote, double, single, quoteByte, valueByte, Piece, byte, entity, decimal, hex, pieceText, isPiece, valueText, arePieces, IsValue, Attribute, AttributesBy, Body, WellFormed, Lacks, AllQuoted, QuotedBody}
 use Rattle.wellformed.proofs.Cursor.{some-each}
 use Rattle.wellformed.proofs.Tests.{digit-name, hex-name, name-value, value-no-quote}
 
@@ -89,13 +90,13 @@ pub value-lacks : (q : Quote) (v : List ℕ) → IsValue q v → Lacks q v
 unfolding Lacks
 value-lacks q v i = rw (i .text) at (pieces-lack q (i .pieces) (i .are))
 
-attributes-lack : (more : List Attribute) → AttributesBy IsValue more → AttributesBy Lacks more
-unfolding AttributesBy
+attributes-lack : (more : List Attribute) → AttributesBy IsValue more → AllQuoted more
+unfolding AttributesBy AllQuoted
 attributes-lack [] h = tt
 attributes-lack (a ∷ more) h = (
-  record { before = h .0 .before; name = h .0 .name; beforeEq = h .0 .beforeEq; afterEq = h .0 .afterEq; value = value-lacks (a .quote) (a .value) (h .0 .value) },
+  record { before = some-each isSpace (a .before) (h .0 .before); name = h .0 .name; beforeEq = h .0 .beforeEq; afterEq = h .0 .afterEq; value = value-lacks (a .quote) (a .value) (h .0 .value) },
   attributes-lack more (h .1),
 )
 
-pub body-lacks : (b : Body) → BodyBy IsValue b → BodyBy Lacks b
+pub body-lacks : (b : Body) → WellFormed b → QuotedBody b
 body-lacks b h = record { attributes = attributes-lack (b .attributes) (h .attributes); after = h .after }

@@ -16,7 +16,7 @@ use Rattle.attributes.specs.Next.{opened}
 use Rattle.attributes.specs.Numbers.{numbersOf}
 use Rattle.parts.specs.Parts.{spanPart, keyPart, valuePart}
 use Rattle.attributes.specs.Run.{answersOf}
-use Rattle.wellformed.specs.Grammar.{Quote, double, single, Lacks, Attribute, Body, attributesThen, textOf, AttributesBy, BodyBy, WellFormed, HasBody, Distinct}
+use Rattle.wellformed.specs.Grammar.{Quote, double, single, Attribute, Body, attributesThen, textOf, WellFormed, AllQuoted, QuotedBody, HasBody, Distinct}
 use Rattle.wellformed.specs.Expected.{nameStart, nameEnd, valueStart, valueEnd, next, inQuotes, attributeOf, attributesOf, isRefusal, noRefusal}
 use Rattle.wellformed.specs.Accept.{isBody}
 use Rattle.wellformed.proofs.OneAttribute.{at-next, name-is, name-order, name-inside, value-is, value-order}
@@ -45,12 +45,13 @@ module _ (pre : List ℕ) (b : Body) where
       let reads = body-reads pre b html checks (body-lacks b fine) (λ on. (few, distinct)) in
       (reads, rw reads (attributes-no-refusal (length pre) (b .attributes)))
 
-  -- The same where a value may be anything without its own quote.
-  pub quoted-reads : BodyBy Lacks b → length (b .attributes) ≤ capacity → Distinct (b .attributes) → (html checks : Bool) → answersOf (pre ++ textOf b) (opened (length pre) html checks) ≡ attributesOf (length pre) (b .attributes)
+  -- The same where a value may be anything without its own quote, and attributes may follow each other, or the start,
+  -- with no whitespace before them.
+  pub quoted-reads : QuotedBody b → length (b .attributes) ≤ capacity → Distinct (b .attributes) → (html checks : Bool) → answersOf (pre ++ textOf b) (opened (length pre) html checks) ≡ attributesOf (length pre) (b .attributes)
   quoted-reads fine few distinct html checks = body-reads pre b html checks fine (λ on. (few, distinct))
 
   -- With checks off there may be any number of attributes, and names may come again.
-  pub unchecked-reads : BodyBy Lacks b → (html : Bool) → answersOf (pre ++ textOf b) (opened (length pre) html false) ≡ attributesOf (length pre) (b .attributes)
+  pub unchecked-reads : QuotedBody b → (html : Bool) → answersOf (pre ++ textOf b) (opened (length pre) html false) ≡ attributesOf (length pre) (b .attributes)
   unchecked-reads fine html = body-reads pre b html false fine (λ on. absurd (false≢true on))
 
 -- The bounds mark the names and the values.
@@ -77,8 +78,8 @@ module _ (s : List ℕ) where
   abbrev pub values : List Answer → List (List ℕ)
   values = map (valuePart s)
 
-  marks : (more : List Attribute) (w : List ℕ) (o : ℕ) → AttributesBy Lacks more → drop o s ≡ attributesThen more w → (names (attributesOf o more) ≡ map (λ (a : Attribute). a .name) more) × (values (attributesOf o more) ≡ map (λ (a : Attribute). a .value) more)
-  unfolding attributesOf attributesThen AttributesBy attributeOf
+  marks : (more : List Attribute) (w : List ℕ) (o : ℕ) → AllQuoted more → drop o s ≡ attributesThen more w → (names (attributesOf o more) ≡ map (λ (a : Attribute). a .name) more) × (values (attributesOf o more) ≡ map (λ (a : Attribute). a .value) more)
+  unfolding attributesOf attributesThen AllQuoted attributeOf
   marks [] w o fine here = (refl, refl)
   marks (a ∷ more) w o fine here =
       let rest = attributesThen more w in
@@ -97,7 +98,7 @@ module _ (pre : List ℕ) (b : Body) where
   abbrev tag : List ℕ
   tag = pre ++ textOf b
 
-  parts-of : BodyBy Lacks b → (answers : List Answer) → answers ≡ attributesOf (length pre) (b .attributes) → (names tag answers ≡ map (λ (a : Attribute). a .name) (b .attributes)) × (values tag answers ≡ map (λ (a : Attribute). a .value) (b .attributes))
+  parts-of : QuotedBody b → (answers : List Answer) → answers ≡ attributesOf (length pre) (b .attributes) → (names tag answers ≡ map (λ (a : Attribute). a .name) (b .attributes)) × (values tag answers ≡ map (λ (a : Attribute). a .value) (b .attributes))
   unfolding textOf
   parts-of fine answers e = rw e (marks tag (b .attributes) (b .after) (length pre) (fine .attributes) (drop-append-seam pre (textOf b)))
 

@@ -89,10 +89,6 @@ pub record IsValue (q : Quote) (v : List ℕ) : Type 0 where
   pub are : arePieces q pieces ≡ true
   pub text : valueText pieces ≡ v
 
--- All that reading asks of a value: it lacks its own quote.
-unfoldable pub Lacks : Quote → List ℕ → Type 0
-Lacks q v = each (λ b. not (eqb b (quoteByte q))) v ≡ true
-
 -- 41: Attribute ::= Name Eq AttValue
 -- 25: Eq ::= S? '=' S?
 -- and before it the S of 40
@@ -143,7 +139,28 @@ pub record BodyBy (Val : Quote → List ℕ → Type 0) (b : Body) : Type 0 wher
 abbrev pub WellFormed : Body → Type 0
 WellFormed = BodyBy IsValue
 
--- some bytes that are the text of one
+-- What reading asks is less: a value only lacks its own quote, and no attribute needs whitespace before it, neither the
+-- first one nor one after a value.
+
+unfoldable pub Lacks : Quote → List ℕ → Type 0
+Lacks q v = each (λ b. not (eqb b (quoteByte q))) v ≡ true
+
+pub record Quoted (a : Attribute) : Type 0 where
+  pub before : each isSpace (a .before) ≡ true
+  pub name : some nameByte (a .name) ≡ true
+  pub beforeEq : each isSpace (a .beforeEq) ≡ true
+  pub afterEq : each isSpace (a .afterEq) ≡ true
+  pub value : Lacks (a .quote) (a .value)
+
+unfoldable pub AllQuoted : List Attribute → Type 0
+AllQuoted [] = Unit {0}
+AllQuoted (a ∷ more) = Quoted a × AllQuoted more
+
+pub record QuotedBody (b : Body) : Type 0 where
+  pub attributes : AllQuoted (b .attributes)
+  pub after : each isSpace (b .after) ≡ true
+
+-- some bytes that are the text of a well-formed one
 pub record HasBody (s : List ℕ) : Type 0 where
   pub body : Body
   pub fine : WellFormed body
