@@ -1,7 +1,7 @@
 -- One binding more leaves a table of the right form: what was there stays, the new record closes the chain, and what is
 -- unused is still zero.
 use Prim.Native.Nat.{ℕ, _+_, _≤_, _<_}
-use mathlib.Core.Path.{_≡_, sym, ap, _∙_}
+use mathlib.Core.Path.{_≡_, refl, sym, ap, _∙_}
 use mathlib.Core.List.{List, _++_}
 use mathlib.Core.Logic.{⊎-elim}
 use native.Mathlib.Nat.{eq-or-lt-of-le}
@@ -14,10 +14,11 @@ use Rattle.scope_table.specs.Table.{TEXT, RECORDS, textOf, isRecord}
 use Rattle.scope_table.specs.declared.NamespaceBinding.{NamespaceBinding}
 use Rattle.scope_table.specs.declared.NamespaceResolver.{NamespaceResolver}
 use Rattle.scope_table.proofs.Lists.{zeros-later}
+use Rattle.scope_table.proofs.Turns.{text-next}
 use Rattle.scope_table.proofs.Rows.{Same, record-new, record-old, text-same, before-same}
 use Rattle.scope_change.specs.Change.{boundOf}
 use Rattle.law_scopes.specs.Sized.{Sized}
-use Rattle.law_scopes.proofs.Form.{Formed, text-next}
+use Rattle.law_scopes.proofs.Form.{Formed}
 use Rattle.law_scopes.proofs.Records.{before-top, opening-within}
 
 -- the room that one binding takes
@@ -76,7 +77,7 @@ module _ (x : NamespaceResolver) (s : Sized x) (p v : List ℕ) (r : Takes x p v
           links = λ k h. last-or _ k h
               (λ e. ap (λ (j : ℕ). R j .start) e ∙ ap (λ (b : NamespaceBinding). b .start) new-stands ∙ sym (f .ends) ∙ sym (kept n (omega arith)) ∙ ap (textOf R) (sym e))
               (λ i. start k i ∙ f .links k i ∙ sym (kept k (omega arith)));
-          ends = text-next R n ∙ omega (arith, ap (λ (b : NamespaceBinding). b .«prefix_len») new-stands, ap (λ (b : NamespaceBinding). b .«value_len») new-stands, kept n (omega arith), f .ends);
+          ends = text-next R n (R n) refl ∙ omega (arith, ap (λ (b : NamespaceBinding). b .«prefix_len») new-stands, ap (λ (b : NamespaceBinding). b .«value_len») new-stands, kept n (omega arith), f .ends);
           rises = λ k h. last-or _ k h
               (λ e. rw e (omega (arith, last, before-same n n R Q old-stay (omega arith), before-top n (x .head .level) Q (f .top))))
               (λ i. omega (arith, before-same n k R Q old-stay (omega arith), level k i, f .rises k i));

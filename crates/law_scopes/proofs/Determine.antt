@@ -14,12 +14,13 @@ use Rattle.scope_table.specs.Records.{rowAt, recordAt, bindingOf, prefixIn, val
 use Rattle.scope_table.specs.Table.{builtIn, headOf, resolverOf, textOf}
 use Rattle.scope_table.specs.declared.NamespaceBinding.{NamespaceBinding}
 use Rattle.scope_table.specs.declared.NamespaceResolver.{NamespaceResolver}
+use Rattle.scope_table.proofs.Turns.{text-next}
 use Rattle.scope_table.proofs.Rows.{Same}
 use Rattle.law_scopes.specs.Scopes.{Made, Scopes}
 use Rattle.law_scopes.specs.Made.{listTo, madeOf, madeAt, madeIn, scopesOf}
 use Rattle.law_scopes.specs.Promises.{Proper, ScopesDetermine}
 use Rattle.law_scopes.proofs.Lists.{all-same}
-use Rattle.law_scopes.proofs.Form.{Formed, form-of, text-next}
+use Rattle.law_scopes.proofs.Form.{Formed, form-of}
 use Rattle.law_scopes.proofs.Records.{text-two, take-same}
 use Rattle.law_scopes.proofs.BuiltIn.{first-record, second-record}
 use Rattle.law_scopes.proofs.Listed.{list-back}
@@ -39,7 +40,7 @@ text-then : (x : NamespaceResolver) → Formed x → (i : ℕ) → i < x .head .
 unfolding prefixIn valueIn
 text-then x f i h =
     let rows = recordAt (x .records) in
-    rw (text-next rows i, f .links i h) (parts-add (x .text) (textOf rows i) (rows i .«prefix_len») (rows i .«value_len»))
+    rw (text-next rows i (rows i) refl, f .links i h) (parts-add (x .text) (textOf rows i) (rows i .«prefix_len») (rows i .«value_len»))
 
 -- records of the same lengths have the same text
 text-lengths : (n : ℕ) (rows others : ℕ → NamespaceBinding) →

@@ -1,10 +1,7 @@
 -- What a table of the right form has, test by test, and back.
-use Prim.Native.Nat.{ℕ, zero, suc, _+_, _≤_, _<_}
+use Prim.Native.Nat.{ℕ, zero, suc, _≤_, _<_}
 use mathlib.Core.Path.{_≡_}
 use mathlib.Core.Bool.{Bool, true, _&&_}
-use mathlib.Core.Logic.{⊎-elim}
-use native.Mathlib.Nat.{eq-or-lt-of-le}
-use native.Mathlib.Numerals.{add-one}
 use native.Mathlib.Omega.{arith}
 use lib.Dec.{eqb, leb}
 use lib.ListN.{take, drop}
@@ -18,21 +15,6 @@ use Rattle.scope_table.specs.declared.NamespaceBinding.{NamespaceBinding}
 use Rattle.scope_table.specs.declared.NamespaceResolver.{NamespaceResolver}
 use Rattle.scope_table.proofs.Lists.{and-left, and-right, and-take, all-at, all-of}
 use Rattle.scope_change.specs.Change.{keptAt}
-
--- The text of the records.
-
-pub text-next : (rows : ℕ → NamespaceBinding) (i : ℕ) → textOf rows (i + 1) ≡ textOf rows i + (rows i .«prefix_len» + rows i .«value_len»)
-unfolding textOf
-text-next rows i = rw (add-one i)
-
--- more records have no less text
-pub text-grows : (rows : ℕ → NamespaceBinding) (i n : ℕ) → i ≤ n → textOf rows i ≤ textOf rows n
-unfolding textOf
-text-grows rows i zero h =
-    let z : i ≡ 0 = omega arith in
-    rw z (omega arith)
-text-grows rows i (suc n) h =
-    ⊎-elim (λ (q : i ≡ suc n). rw q (omega arith)) (λ (l : i < suc n). let g = text-grows rows i n (omega arith) in omega arith) (eq-or-lt-of-le h)
 
 pub keep-within : (rows : ℕ → NamespaceBinding) (level n : ℕ) → keptAt rows level n ≤ n
 unfolding keptAt

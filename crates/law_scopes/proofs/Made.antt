@@ -1,7 +1,7 @@
 -- How the bindings of a table change: one more goes to the end of the list, and a level keeps those up to it. Their sum
 -- is the text in use.
 use Prim.Native.Nat.{ℕ, zero, suc, _+_, _-_, _≤_, _<_}
-use mathlib.Core.Path.{_≡_, sym, ap, _∙_}
+use mathlib.Core.Path.{_≡_, refl, sym, ap, _∙_}
 use mathlib.Core.List.{List, [], _∷_, _++_}
 use native.Mathlib.Omega.{arith}
 use lib.ListN.{length, take}
@@ -11,13 +11,14 @@ use Rattle.scope_table.specs.Records.{recordAt, bindingOf, valueStart, valueEnd
 use Rattle.scope_table.specs.Table.{textOf}
 use Rattle.scope_table.specs.declared.NamespaceBinding.{NamespaceBinding}
 use Rattle.scope_table.specs.declared.NamespaceResolver.{NamespaceResolver}
+use Rattle.scope_table.proofs.Turns.{text-next, text-grows}
 use Rattle.scope_table.proofs.Rows.{Same}
 use Rattle.scope_change.specs.Change.{boundOf, keptOf, droppedOf}
 use Rattle.law_scopes.specs.Sized.{Sized}
 use Rattle.law_scopes.specs.Scopes.{made, sizeOf, upTo}
 use Rattle.law_scopes.specs.Made.{listTo, madeOf, madeAt, madeIn}
 use Rattle.law_scopes.proofs.Lists.{take-of-cut}
-use Rattle.law_scopes.proofs.Form.{Formed, text-next, text-grows}
+use Rattle.law_scopes.proofs.Form.{Formed}
 use Rattle.law_scopes.proofs.Records.{text-two, kept-below, kept-above}
 use Rattle.law_scopes.proofs.Bound.{Takes, old-stay, new-stands}
 use Rattle.law_scopes.proofs.Kept.{text-fits, kept-stay, kept, kept-within, kept-two}
@@ -31,7 +32,7 @@ pub record-ends : (x : NamespaceResolver) → Formed x → (i k : ℕ) → i < k
     valueEnd (recordAt (x .records) i) ≤ textOf (recordAt (x .records)) k
 record-ends x f i k h l =
     let rows = recordAt (x .records) in
-    omega (arith, f .links i (omega arith), text-next rows i, text-grows rows (i + 1) k (omega arith))
+    omega (arith, f .links i (omega arith), text-next rows i (rows i) refl, text-grows rows (i + 1) k (omega arith))
 
 -- texts that are the same up to where a record ends: the record says the same in both
 said-same : (n : ℕ) (t u : List ℕ) (b : NamespaceBinding) → take n t ≡ take n u → valueEnd b ≤ n → madeOf t b ≡ madeOf u b
@@ -52,9 +53,9 @@ made-same x y f k w e s i h =
 -- One binding more.
 
 module _ (x : NamespaceResolver) (s : Sized x) (p v : List ℕ) (r : Takes x p v) (f : Formed x) where
-  old : (i : ℕ) → i < x .head .count → madeAt (boundOf p v x) i ≡ madeAt x i
+  pub bound-old : (i : ℕ) → i < x .head .count → madeAt (boundOf p v x) i ≡ madeAt x i
   unfolding boundOf
-  old =
+  bound-old =
       let n = x .head .count in
       made-same x (boundOf p v x) f n (omega arith)
       (take-of-over (textOf (recordAt (x .records)) n) (x .text) (x .head .used) (p ++ v) (omega (arith, f .ends)) (omega (arith, f .small, s .text)))
@@ -66,9 +67,9 @@ module _ (x : NamespaceResolver) (s : Sized x) (p v : List ℕ) (r : Takes x p v
       let h : x .head .used ≤ length (x .text) = omega (arith, f .small, s .text) in
       rw (prefix-back (x .text) (x .head .used) p v h, value-back (x .text) (x .head .used) p v h)
 
-  new : madeAt (boundOf p v x) (x .head .count) ≡ made p v (x .head .level)
+  pub bound-new : madeAt (boundOf p v x) (x .head .count) ≡ made p v (x .head .level)
   unfolding boundOf madeAt
-  new = ap (madeOf (over (x .text) (x .head .used) (p ++ v))) (new-stands x s p v r) ∙ new-said
+  bound-new = ap (madeOf (over (x .text) (x .head .used) (p ++ v))) (new-stands x s p v r) ∙ new-said
 
   pub bound-made : madeIn (boundOf p v x) ≡ madeIn x ++ (made p v (x .head .level) ∷ [])
   unfolding boundOf madeIn listTo
@@ -77,7 +78,7 @@ module _ (x : NamespaceResolver) (s : Sized x) (p v : List ℕ) (r : Takes x p v
       let n = x .head .count in
       let e : n + 1 - 2 ≡ suc (n - 2) = omega arith in
       let k : 2 + (n - 2) ≡ n = omega arith in
-      rw (e, k, new, list-same (λ i. madeAt (boundOf p v x) (2 + i)) (λ i. madeAt x (2 + i)) (n - 2) (λ i h. old (2 + i) (omega arith)))
+      rw (e, k, bound-new, list-same (λ i. madeAt (boundOf p v x) (2 + i)) (λ i. madeAt x (2 + i)) (n - 2) (λ i h. bound-old (2 + i) (omega arith)))
 
 -- Those up to a level.
 
@@ -132,7 +133,7 @@ module _ (x : NamespaceResolver) (s : Sized x) (f : Formed x) where
       let b = madeAt x (2 + n) in
       let l = listTo (λ i. madeAt x (2 + i)) n in
       let e : 2 + suc n ≡ 2 + n + 1 = omega arith in
-      rw e (omega (arith, text-next rows (2 + n), text-sum n (omega arith), size-append l (b ∷ []), made-size (2 + n) (omega arith)))
+      rw e (omega (arith, text-next rows (2 + n) (rows (2 + n)) refl, text-sum n (omega arith), size-append l (b ∷ []), made-size (2 + n) (omega arith)))
 
   pub used-sum : x .head .used ≡ 73 + sizeOf (madeIn x)
   unfolding madeIn

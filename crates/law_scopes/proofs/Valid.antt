@@ -71,7 +71,7 @@ unfolding limitedOf
 limited-sized x limit s = record { text = s .text; records = s .records }
 
 -- the limit is not judged
-limited-proper : (x : NamespaceResolver) (limit : ℕ) → Proper x → Proper (limitedOf limit x)
+pub limited-proper : (x : NamespaceResolver) (limit : ℕ) → Proper x → Proper (limitedOf limit x)
 unfolding limitedOf
 limited-proper x limit g =
     let s = g .sized in
