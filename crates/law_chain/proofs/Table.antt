@@ -27,7 +27,7 @@ use Rattle.scope_lookup.specs.declared.Resolved.the-variants.{Bound}
 use Rattle.law_scopes.specs.Scopes.{Made, made}
 use Rattle.law_scopes.specs.Made.{madeOf, madeAt}
 use Rattle.law_scopes.specs.Promises.{Proper, BuiltInsStand}
-use Rattle.law_scopes.proofs.Form.{Formed, form-of}
+use Rattle.law_scopes.proofs.Form.{Shaped, form-of}
 use Rattle.law_scopes.proofs.Bound.{Takes}
 use Rattle.law_scopes.proofs.Valid.{bound-proper, raised-proper, limited-proper, fresh-proper}
 use Rattle.law_scopes.proofs.Made.{record-ends, bound-old, bound-new, prefix-length, value-length}
@@ -122,7 +122,7 @@ module _ (x : NamespaceResolver) (g : Proper x) where
   abbrev rows : ℕ → NamespaceBinding
   rows = recordAt (x .records)
 
-  f : Formed x
+  f : Shaped x
   f = form-of x (g .valid)
 
   value-inside : (i : ℕ) → i < x .head .count → inside (x .text) (valueStart (rows i)) (valueEnd (rows i)) ≡ madeAt x i .value

@@ -18,7 +18,7 @@ use Rattle.scope_table.proofs.Turns.{text-next}
 use Rattle.scope_table.proofs.Rows.{Same, record-new, record-old, text-same, before-same}
 use Rattle.scope_change.specs.Change.{boundOf}
 use Rattle.law_scopes.specs.Sized.{Sized}
-use Rattle.law_scopes.proofs.Form.{Formed}
+use Rattle.law_scopes.proofs.Form.{Shaped}
 use Rattle.law_scopes.proofs.Records.{before-top, opening-within}
 
 -- the room that one binding takes
@@ -49,12 +49,12 @@ module _ (x : NamespaceResolver) (s : Sized x) (p v : List ℕ) (r : Takes x p v
   pub new-stands : recordAt written (x .head .count) ≡ new
   new-stands = record-new (x .records) (x .head .count) new (omega (arith, s .records, r .records))
 
-  module _ (f : Formed x) where
+  module _ (f : Shaped x) where
     -- the last record, or one before it
     last-or : (A : Type 0) (k : ℕ) → k < x .head .count + 1 → (k ≡ x .head .count → A) → (k < x .head .count → A) → A
     last-or A k h a b = ⊎-elim a b (eq-or-lt-of-le (omega arith))
 
-    pub bound-form : Formed (boundOf p v x)
+    pub bound-form : Shaped (boundOf p v x)
     unfolding boundOf
     bound-form =
         let n = x .head .count in

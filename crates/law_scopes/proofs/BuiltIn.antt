@@ -15,7 +15,7 @@ use Rattle.law_scopes.specs.Scopes.{made}
 use Rattle.law_scopes.specs.Made.{madeOf, madeAt}
 use Rattle.law_scopes.specs.Promises.{BuiltInsStand}
 use Rattle.law_scopes.proofs.Records.{Said, says}
-use Rattle.law_scopes.proofs.Form.{Formed, form-of}
+use Rattle.law_scopes.proofs.Form.{Shaped, form-of}
 
 built-whole : take 73 builtIn ≡ builtIn
 unfolding builtIn bytes bytesFrom
@@ -30,7 +30,7 @@ record-is b a p v l e s =
     let all : bindingOf (b .start) (b .«prefix_len») (b .«value_len») (b .level) ≡ bindingOf a p v l = cc in
     all
 
-module _ (x : NamespaceResolver) (f : Formed x) where
+module _ (x : NamespaceResolver) (f : Shaped x) where
   text-at : (a e : ℕ) → a ≤ e → e ≤ 73 → part (x .text) a e ≡ part builtIn a e
   text-at a e = part-same 73 (x .text) builtIn a e (same-eq (take 73 (x .text)) builtIn (f .opening) ∙ sym built-whole)
 

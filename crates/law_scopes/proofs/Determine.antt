@@ -20,7 +20,7 @@ use Rattle.law_scopes.specs.Scopes.{Made, Scopes}
 use Rattle.law_scopes.specs.Made.{listTo, madeOf, madeAt, madeIn, scopesOf}
 use Rattle.law_scopes.specs.Promises.{Proper, ScopesDetermine}
 use Rattle.law_scopes.proofs.Lists.{all-same}
-use Rattle.law_scopes.proofs.Form.{Formed, form-of}
+use Rattle.law_scopes.proofs.Form.{Shaped, form-of}
 use Rattle.law_scopes.proofs.Records.{text-two, take-same}
 use Rattle.law_scopes.proofs.BuiltIn.{first-record, second-record}
 use Rattle.law_scopes.proofs.Listed.{list-back}
@@ -34,7 +34,7 @@ parts-add t a p v =
     let f : a + p + v - (a + p) ≡ v = omega arith in
     rw (e, f, take-add a (p + v) t, take-add p v (drop a t), drop-drop p a t)
 
-text-then : (x : NamespaceResolver) → Formed x → (i : ℕ) → i < x .head .count →
+text-then : (x : NamespaceResolver) → Shaped x → (i : ℕ) → i < x .head .count →
     let rows = recordAt (x .records) in
     take (textOf rows (i + 1)) (x .text) ≡ take (textOf rows i) (x .text) ++ (prefixIn (x .text) (rows i) ++ valueIn (x .text) (rows i))
 unfolding prefixIn valueIn
@@ -62,10 +62,10 @@ abbrev Clear : ℕ → List ℕ → Type 0
 Clear n l = allZero (drop n l) ≡ true
 
 module _ (x y : NamespaceResolver) (g : Proper x) (h : Proper y) (e : scopesOf x ≡ scopesOf y) where
-  fx : Formed x
+  fx : Shaped x
   fx = form-of x (g .valid)
 
-  fy : Formed y
+  fy : Shaped y
   fy = form-of y (h .valid)
 
   abbrev X : ℕ → NamespaceBinding

@@ -23,7 +23,7 @@ use Rattle.law_scopes.specs.Calls.{add, push, pop, setLevel, setLimit, c
 use Rattle.law_scopes.specs.Scopes.{Told, told, sizeOf, roomFor, bindIn, settleIn, declareIn, declareAllIn, levelIn, callIn}
 use Rattle.law_scopes.specs.Made.{madeOf, madeAt, madeIn, scopesOf, seen}
 use Rattle.law_scopes.specs.Promises.{Proper, ScopesFollow}
-use Rattle.law_scopes.proofs.Form.{Formed, form-of}
+use Rattle.law_scopes.proofs.Form.{Shaped, form-of}
 use Rattle.law_scopes.proofs.Bound.{Takes}
 use Rattle.law_scopes.proofs.Declared.{refusal, room-of, declare-keeps}
 use Rattle.law_scopes.proofs.Valid.{bound-proper, raised-proper}
@@ -46,7 +46,7 @@ room-as used count level limit bound sum size c u =
 -- A declaration.
 
 module _ (x : NamespaceResolver) (g : Proper x) where
-  f : Formed x
+  f : Shaped x
   f = form-of x (g .valid)
 
   room-seen : (p v : List ℕ) → refusal x p v ≡ roomFor (scopesOf x) p v

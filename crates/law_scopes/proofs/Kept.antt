@@ -14,10 +14,10 @@ use Rattle.scope_table.proofs.Rows.{Same, same-take, text-same, before-same}
 use Rattle.scope_change.specs.Change.{keptAt, keptOf, droppedOf}
 use Rattle.law_scopes.specs.Sized.{Sized}
 use Rattle.law_scopes.proofs.Lists.{take-of-cut, cut-rest}
-use Rattle.law_scopes.proofs.Form.{Formed, keep-within}
+use Rattle.law_scopes.proofs.Form.{Shaped, keep-within}
 use Rattle.law_scopes.proofs.Records.{says, opening-within, kept-least, kept-below}
 
-module _ (x : NamespaceResolver) (s : Sized x) (f : Formed x) where
+module _ (x : NamespaceResolver) (s : Sized x) (f : Shaped x) where
   module _ (k to : ℕ) (within : k ≤ x .head .count) where
     rows-fit : rowAt k ≤ length (x .records)
     rows-fit = omega (arith, s .records, f .few)
@@ -37,7 +37,7 @@ module _ (x : NamespaceResolver) (s : Sized x) (f : Formed x) where
           records = cut-length (x .records) (rowAt k) rows-fit ∙ s .records;
         }
 
-    pub kept-form : to ≤ DEEPEST → 2 ≤ k → ((j : ℕ) → j < k → recordAt (x .records) j .level ≤ to) → Formed (keptOf k to x)
+    pub kept-form : to ≤ DEEPEST → 2 ≤ k → ((j : ℕ) → j < k → recordAt (x .records) j .level ≤ to) → Shaped (keptOf k to x)
     unfolding keptOf
     kept-form deep two below =
         let R = recordAt (cut (x .records) (rowAt k)) in
@@ -78,7 +78,7 @@ module _ (x : NamespaceResolver) (s : Sized x) (f : Formed x) where
   unfolding droppedOf
   dropped-sized to = kept-sized (kept to) to (kept-within to)
 
-  pub dropped-form : (to : ℕ) → to ≤ DEEPEST → Formed (droppedOf to x)
+  pub dropped-form : (to : ℕ) → to ≤ DEEPEST → Shaped (droppedOf to x)
   unfolding droppedOf
   dropped-form to deep =
       kept-form (kept to) to (kept-within to) deep (kept-two to)

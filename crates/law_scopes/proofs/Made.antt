@@ -18,7 +18,7 @@ use Rattle.law_scopes.specs.Sized.{Sized}
 use Rattle.law_scopes.specs.Scopes.{made, sizeOf, upTo}
 use Rattle.law_scopes.specs.Made.{listTo, madeOf, madeAt, madeIn}
 use Rattle.law_scopes.proofs.Lists.{take-of-cut}
-use Rattle.law_scopes.proofs.Form.{Formed}
+use Rattle.law_scopes.proofs.Form.{Shaped}
 use Rattle.law_scopes.proofs.Records.{text-two, kept-below, kept-above}
 use Rattle.law_scopes.proofs.Bound.{Takes, old-stay, new-stands}
 use Rattle.law_scopes.proofs.Kept.{text-fits, kept-stay, kept, kept-within, kept-two}
@@ -28,7 +28,7 @@ use Rattle.law_scopes.proofs.Listed.{list-same, list-length, size-appen
 -- What the records of two tables say alike.
 
 -- the text of record i ends where that of the next starts
-pub record-ends : (x : NamespaceResolver) → Formed x → (i k : ℕ) → i < k → k ≤ x .head .count →
+pub record-ends : (x : NamespaceResolver) → Shaped x → (i k : ℕ) → i < k → k ≤ x .head .count →
     valueEnd (recordAt (x .records) i) ≤ textOf (recordAt (x .records)) k
 record-ends x f i k h l =
     let rows = recordAt (x .records) in
@@ -41,7 +41,7 @@ said-same n t u b e h =
     rw (part-same n t u (b .start) (valueStart b) e (omega arith) (omega arith), part-same n t u (valueStart b) (valueEnd b) e (omega arith) (omega arith))
 
 -- y has the first k records of x, with their text
-made-same : (x y : NamespaceResolver) → Formed x → (k : ℕ) → k ≤ x .head .count →
+made-same : (x y : NamespaceResolver) → Shaped x → (k : ℕ) → k ≤ x .head .count →
     take (textOf (recordAt (x .records)) k) (y .text) ≡ take (textOf (recordAt (x .records)) k) (x .text) →
     Same k (recordAt (y .records)) (recordAt (x .records)) →
     (i : ℕ) → i < k → madeAt y i ≡ madeAt x i
@@ -52,7 +52,7 @@ made-same x y f k w e s i h =
 
 -- One binding more.
 
-module _ (x : NamespaceResolver) (s : Sized x) (p v : List ℕ) (r : Takes x p v) (f : Formed x) where
+module _ (x : NamespaceResolver) (s : Sized x) (p v : List ℕ) (r : Takes x p v) (f : Shaped x) where
   pub bound-old : (i : ℕ) → i < x .head .count → madeAt (boundOf p v x) i ≡ madeAt x i
   unfolding boundOf
   bound-old =
@@ -82,7 +82,7 @@ module _ (x : NamespaceResolver) (s : Sized x) (p v : List ℕ) (r : Takes x p v
 
 -- Those up to a level.
 
-module _ (x : NamespaceResolver) (s : Sized x) (f : Formed x) (to : ℕ) where
+module _ (x : NamespaceResolver) (s : Sized x) (f : Shaped x) (to : ℕ) where
   abbrev k : ℕ
   k = kept x s f to
 
@@ -106,7 +106,7 @@ module _ (x : NamespaceResolver) (s : Sized x) (f : Formed x) (to : ℕ) where
 
 -- The sums.
 
-module _ (x : NamespaceResolver) (s : Sized x) (f : Formed x) where
+module _ (x : NamespaceResolver) (s : Sized x) (f : Shaped x) where
   abbrev rows : ℕ → NamespaceBinding
   rows = recordAt (x .records)
 

@@ -20,7 +20,7 @@ use Rattle.scope_table.proofs.Lists.{and-left, and-right}
 use Rattle.scope_table.proofs.Turns.{text-grows}
 use Rattle.scope_table.proofs.Rows.{Same}
 use Rattle.scope_change.specs.Change.{keptAt}
-use Rattle.law_scopes.proofs.Form.{Formed}
+use Rattle.law_scopes.proofs.Form.{Shaped}
 
 -- no level before record n is above what the first n are not above
 pub before-top : (n top : ℕ) (rows : ℕ → NamespaceBinding) → ((k : ℕ) → k < n → rows k .level ≤ top) → levelBefore rows n ≤ top
@@ -53,7 +53,7 @@ text-two rows a b =
     omega (arith, x .prefix-len, x .value-len, y .prefix-len, y .value-len)
 
 -- their text is within the text of the first n records
-pub opening-within : (x : NamespaceResolver) → Formed x → (n : ℕ) → 2 ≤ n → 73 ≤ textOf (recordAt (x .records)) n
+pub opening-within : (x : NamespaceResolver) → Shaped x → (n : ℕ) → 2 ≤ n → 73 ≤ textOf (recordAt (x .records)) n
 opening-within x f n h =
     omega (arith, text-two (recordAt (x .records)) (f .xml) (f .xmlns), text-grows (recordAt (x .records)) 2 n h)
 

@@ -21,7 +21,7 @@ use Rattle.law_scopes.specs.Sized.{Sized}
 use Rattle.law_scopes.specs.Calls.{Call, add, push, pop, setLevel, setLimit, callOf, leftBy}
 use Rattle.law_scopes.specs.Promises.{Proper, ValidStays, ReachedValid}
 use Rattle.law_scopes.proofs.Lists.{zeros}
-use Rattle.law_scopes.proofs.Form.{Formed, form-of, valid-of}
+use Rattle.law_scopes.proofs.Form.{Shaped, form-of, valid-of}
 use Rattle.law_scopes.proofs.Bound.{Takes, bound-sized, bound-form}
 use Rattle.law_scopes.proofs.Kept.{dropped-sized, dropped-form}
 use Rattle.law_scopes.proofs.Declared.{declare-keeps, all-keep}
@@ -118,7 +118,7 @@ fresh-two P a b zero h = a
 fresh-two P a b (suc zero) h = b
 fresh-two P a b (suc (suc k)) h = absurd (omega arith)
 
-fresh-form : Formed freshOf
+fresh-form : Shaped freshOf
 unfolding freshOf isRecord textOf levelBefore
 fresh-form =
     record {
