@@ -7,3 +7,4 @@ pub mod Cutting
 pub mod Theorem
 pub mod Examples
 pub mod Stable
+pub mod Applied

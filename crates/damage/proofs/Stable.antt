@@ -123,7 +123,7 @@ next-stable s t m st agree b = by (recoverOf s (st .place)) refl where
       let still = place-same (st .place) in
       let good : placeGood t (st .place) ≡ true = ap (placeGood t) (sym still) ∙ good-move w (st .place) (omega (arith, x .upto)) ∙ b .place in
       let goes : recoverOf t (st .place) ≡ From o = ap (recoverOf t) (sym still) ∙ recover-move w (st .place) (x .within) (rw e lt) ∙ rw e in
-      let in-s = in-table (length s) (st .starts) (st .ends) (st .count) (keys-longer (st .starts) (st .ends) (st .count) m (length s) (agree .in-s) (b .keys)) in
+      let in-s = in-table (length s) (st .starts) (st .ends) (st .count) (keys-longer (st .starts) (st .ends) (st .count) m (length s) (omega (arith, agree .in-s)) (b .keys)) in
       let in-t = in-table (length t) (st .starts) (st .ends) (st .count) (keys-longer (st .starts) (st .ends) (st .count) m (length t) (agree .in-t) (b .keys)) in
       rw (in-s, in-t, good, b .place, goes, e, read-same s t m agree (st .html) (st .«check_duplicates») (keysOf st) o (omega arith) (names-like s t m agree (keysOf st) (b .keys)) l)
 
