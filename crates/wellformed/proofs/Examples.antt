@@ -1,20 +1,23 @@
 -- Texts that are bodies and texts that are none, by computation; and each theorem on reading applied to a tag that meets its
 -- premises, with the answers that it then promises.
-use Prim.Native.Nat.{ℕ}
+use Prim.Native.Nat.{ℕ, _≤_}
 use Prim.Native.String.{String}
 use mathlib.Core.Path.{_≡_, refl}
 use mathlib.Core.Bool.{Bool, true, false}
 use mathlib.Core.List.{List, [], _∷_, _++_, map}
 use native.Mathlib.Omega.{arith}
+use lib.ListN.{length, replicate, length-replicate}
 use Rattle.scan.specs.First.{stopOr, firstOf, firstTo, firstFrom}
 use Rattle.scan.specs.Bytes.{isSpace, notSpace, endsKey, isByte, part, sameBytes, bytesFrom, bytes}
-use Rattle.keys.specs.Keys.{keyGood, keyBad, countGood, tableGood, nameAt, sameKey, oldestOf, earlierOf, checkedBy, checkedOf, writtenBy, countBy}
+use Rattle.keys.specs.Keys.{capacity, keyGood, keyBad, countGood, tableGood, nameAt, sameKey, oldestOf, earlierOf, checkedBy, checkedOf, writtenBy, countBy}
+use Rattle.attributes.specs.declared.Place.the-variants.{SkipValue}
 use Rattle.attributes.specs.declared.Start.the-variants.{From}
-use Rattle.attributes.specs.declared.Answer.the-variants.{DoubleQ, SingleQ, Duplicated}
+use Rattle.attributes.specs.declared.Answer.the-variants.{DoubleQ, SingleQ, Duplicated, BadState}
 use Rattle.attributes.specs.declared.IterState.{IterState}
 use Rattle.attributes.specs.Read.{span, isAt, isQuote, skipTo, skipOf, recoverOf, keyEq, keyTo, keyFrom, keyAt, quoted, closedOf, quotedTo, quotedOf, unquotedTo, otherOf, valueIn, valueFrom, valueAt}
-use Rattle.attributes.specs.Next.{checkOf, keptBy, placeAt, bareBy, bareTo, bareOf, valuedBy, valuedTo, valuedOf, readKey, readAt, stepFrom, stepOf, placeGood, keysOf, stateGood, noKeys, badReading, leaves, nextOf, opened}
+use Rattle.attributes.specs.Next.{checkOf, keptBy, placeAt, bareBy, bareTo, bareOf, valuedBy, valuedTo, valuedOf, readKey, readAt, stepFrom, stepOf, placeGood, keysOf, lentState, stateGood, noKeys, badReading, leaves, nextOf, opened}
 use Rattle.attributes.specs.Run.{answersOf}
+use Rattle.attributes.proofs.Good.{opened-sized, opened-good}
 use Rattle.parts.specs.Parts.{keyPart, valuePart}
 use Rattle.wellformed.specs.Grammar.{each, some, isIn, oneOf, nameByte, double, single, quoteByte, valueByte, byte, pieceText, isPiece, valueText, arePieces, attributeThen, Body, attributesThen, textOf, AttributesBy, WellFormed, Lacks, AllQuoted, QuotedBody, Absent, Distinct}
 use Rattle.wellformed.specs.Expected.{nameStart, nameEnd, valueStart, valueEnd, next, inQuotes, attributeOf, attributesOf}
@@ -22,6 +25,7 @@ use Rattle.wellformed.specs.Accept.{after, passes, accepts, isBody}
 use Rattle.wellformed.specs.Resume.{fromOrEnded, fromWhitespace, afterKey, afterDuplicate, resumesAt}
 use Rattle.wellformed.proofs.WellFormed.{well-formed-reads, quoted-reads, unchecked-reads, well-formed-parts}
 use Rattle.wellformed.proofs.Resume.{resume-exact}
+use Rattle.wellformed.proofs.Ends.{run-ends, bad-run-ends}
 
 abbrev bodies : List String
 bodies =
@@ -169,3 +173,15 @@ pub resume-example :
     (nextOf s again .answer ≡ Duplicated 6 0) × (recoverOf s (nextOf s again .state .place) ≡ From 10)
 unfolding stopOr firstOf firstTo firstFrom isSpace notSpace endsKey isByte part sameBytes bytesFrom bytes keyGood keyBad countGood tableGood nameAt sameKey oldestOf earlierOf checkedBy checkedOf writtenBy countBy isAt isQuote skipTo skipOf recoverOf keyEq keyTo keyFrom keyAt quoted closedOf quotedTo quotedOf unquotedTo otherOf valueIn valueFrom valueAt checkOf keptBy placeAt bareBy bareTo bareOf valuedBy valuedTo valuedOf readKey readAt stepFrom stepOf placeGood keysOf stateGood noKeys badReading leaves nextOf opened fromOrEnded fromWhitespace afterKey afterDuplicate resumesAt
 resume-example = (refl, resume-exact (bytes "a='1' a=\"2 3\" b='4'") again)
+
+-- From an opened iterator there are at most as many answers as bytes; a skip place outside the tag is answered once, by 7.
+pub run-ends-example : length (answersOf (bytes "a=1 b='2'") (opened 0 false true)) ≤ 9
+unfolding recoverOf opened bytes bytesFrom
+run-ends-example = run-ends (bytes "a=1 b='2'") (opened 0 false true) (opened-sized 0 false true) (opened-good (bytes "a=1 b='2'") 0 false true)
+
+abbrev outside : IterState
+outside = lentState (SkipValue 1) false true (replicate capacity 0) (replicate capacity 0) 0
+
+pub bad-run-example : answersOf (bytes "a") outside ≡ BadState ∷ []
+unfolding stopOr firstOf firstTo bytes bytesFrom keyGood keyBad countGood tableGood placeGood stateGood
+bad-run-example = bad-run-ends (bytes "a") outside (record { starts = length-replicate {A = ℕ} capacity 0; ends = length-replicate {A = ℕ} capacity 0 }) refl
