@@ -2,9 +2,260 @@
 //
 // Ports of `add` and `set_level` of `NamespaceResolver` what they do to the buffer and the bindings (src/name.rs). The
 // functions work on lent memory that may be shorter than the capacity (scope_table, specs/Lent).
+ghost use mathlib.Core.Path.{_≡_};
+ghost use mathlib.Core.Bool.{true};
+ghost use Prim.Native.Nat.{_+_, _-_, _≤_};
+ghost use lib.ListN.{length, drop};
+ghost use Rattle.scope_table.specs.Lists.{allZero, cut};
+ghost use Rattle.scope_table.specs.Records.{rowAt, recordAt};
+ghost use Rattle.scope_table.specs.Table.{RECORDS};
+ghost use Rattle.scope_table.specs.Lent.{given, lentOf, formOf};
+ghost use Rattle.scope_table.specs.declared.Form.the-variants.{Good};
+ghost use Rattle.scope_change.specs.Change.{refusalOf, lentRefusalOf, appendOf, keptAt, endOf, levelOf};
+ghost use Rattle.scope_change.specs.Asked.{CanAppend};
+use scope_table::Form;
+use scope_table::Head;
+use scope_table::NamespaceBinding;
+use scope_table::NamespaceResolver;
+use scope_table::NamespaceResult;
+use scope_table::Outcome;
 
 // What may be in use at most, in records and in bytes of text: all that there is for a single resolver.
 pub struct Room {
     pub records: usize,
     pub bytes: usize,
+}
+
+// Writes zeros into a text from `from` up to `to`, from where on there are only zeros.
+fn clear_bytes(t: &mut [u8], from: usize, to: usize)
+    requires { ⌜ (to ≤ length (now t)) × (allZero (drop to (now t)) ≡ true) ⌝ }
+    ensures { λ _. ⌜ now (t .exit) ≡ cut (now (t .entry)) from ⌝ }
+{
+    let mut i = from;
+    while i < to {
+        t[i] = 0;
+        i += 1;
+    }
+}
+
+// The same in the records.
+fn clear_numbers(t: &mut [usize], from: usize, to: usize)
+    requires { ⌜ (to ≤ length (now t)) × (allZero (drop to (now t)) ≡ true) ⌝ }
+    ensures { λ _. ⌜ now (t .exit) ≡ cut (now (t .entry)) from ⌝ }
+{
+    let mut i = from;
+    while i < to {
+        t[i] = 0;
+        i += 1;
+    }
+}
+
+// What is left of `all` when `some` are taken: `saturating_sub` of the standard library.
+fn left(all: usize, some: usize) -> usize
+    ensures { λ r. ⌜ r ≡ all - some ⌝ }
+{
+    if some < all {
+        return all - some;
+    }
+    0
+}
+
+// Refusals 16, 18, 19 for a binding of these lengths, each at its turn. No sum is made of lengths that are not there.
+fn refusal(room: Room, head: Head, prefix_len: usize, value_len: usize) -> NamespaceResult
+    ensures { λ r. ⌜ r ≡ refusalOf room head («prefix_len» + «value_len») ⌝ }
+{
+    let limit = head.limit;
+    let count = head.count;
+    let used = head.used;
+    let records = room.records;
+    let bytes = room.bytes;
+    if limit <= left(count, NamespaceResolver::BUILT_INS) {
+        return NamespaceResult::TooManyBindings(limit);
+    }
+    if records <= count {
+        return NamespaceResult::BindingTableFull;
+    }
+    if bytes < used {
+        return NamespaceResult::TextFull;
+    }
+    let free = bytes - used;
+    if free < prefix_len {
+        return NamespaceResult::TextFull;
+    }
+    if free - prefix_len < value_len {
+        return NamespaceResult::TextFull;
+    }
+    NamespaceResult::Done
+}
+
+// The same on memory of these lengths: then it has to hold the binding.
+fn lent_refusal(
+    bytes: usize,
+    numbers: usize,
+    room: Room,
+    head: Head,
+    prefix_len: usize,
+    value_len: usize,
+) -> NamespaceResult
+    ensures { λ r. ⌜ r ≡ lentRefusalOf bytes numbers room head («prefix_len» + «value_len») ⌝ }
+{
+    let used = head.used;
+    let count = head.count;
+    let answer = refusal(room, head, prefix_len, value_len);
+    let NamespaceResult::Done = answer else {
+        return answer;
+    };
+    let size = prefix_len + value_len;
+    let end = used + size;
+    let next = count + 1;
+    if scope_table::fits(bytes, numbers, end, next) {
+        return NamespaceResult::Done;
+    }
+    NamespaceResult::LendMore
+}
+
+// One binding more, where there is room for it and what is lent holds it: what `NamespaceResolver::add`, src/name.rs, does
+// with a binding that it takes.
+//
+//     text    .. v 0 0 0 0 0        .. v p p u u 0
+//                  |         ->          |   |   |
+//                  used                used  value, then the text in use
+pub fn append_in<'p>(
+    text: &mut [u8],
+    records: &mut [usize],
+    head: Head,
+    room: Room,
+    prefix: &'p [u8],
+    value: &'p [u8],
+) -> Outcome
+    requires { ⌜ CanAppend (length (now text)) (length (now records)) head room ⌝ }
+    ensures { λ r. ⌜ given (r .answer) (now (text .exit)) (now (records .exit)) (r .head)
+        ≡ lentOf (appendOf room (now (prefix .entry)) (now (value .entry))) (now (text .entry)) (now (records .entry)) head ⌝ }
+{
+    let used = head.used;
+    let count = head.count;
+    let level = head.level;
+    let limit = head.limit;
+    let prefix_len = prefix.len();
+    let value_len = value.len();
+    let answer = lent_refusal(text.len(), records.len(), room, head, prefix_len, value_len);
+    let NamespaceResult::Done = answer else {
+        return Outcome {
+            answer: answer,
+            head: head,
+        };
+    };
+    let middle = used + prefix_len;
+    let size = prefix_len + value_len;
+    let end = used + size;
+    let next = count + 1;
+    scope_table::put(text, used, prefix);
+    scope_table::put(text, middle, value);
+    let written = NamespaceBinding {
+        start: used,
+        prefix_len: prefix_len,
+        value_len: value_len,
+        level: level,
+    };
+    scope_table::write_record(records, count, written);
+    Outcome {
+        answer: NamespaceResult::Done,
+        head: Head {
+            used: end,
+            count: next,
+            level: level,
+            limit: limit,
+        },
+    }
+}
+
+// How many of the first n records stay at a level: one more than the place that `rposition` finds in
+// `NamespaceResolver::set_level`, src/name.rs, and 0 where it finds none.
+fn kept(records: &[usize], n: usize, level: usize) -> usize
+    requires { ⌜ rowAt n ≤ length (now records) ⌝ }
+    ensures { λ r. ⌜ r ≡ keptAt (recordAt (now (records .entry))) level n ⌝ }
+{
+    let mut i = n;
+    while 0 < i {
+        let last = i - 1;
+        let b = scope_table::record_at(records, last);
+        if b.level <= level {
+            return i;
+        }
+        i = last;
+    }
+    0
+}
+
+// Where the text of the first k records ends. The first branch is the crate's for a level that no record is at or below:
+// everything goes. The built-ins at level 0 keep it from being taken.
+fn text_end(records: &[usize], k: usize, count: usize, used: usize) -> usize
+    requires { ⌜ rowAt count ≤ length (now records) ⌝ }
+    ensures { λ r. ⌜ r ≡ endOf (recordAt (now (records .entry))) k count used ⌝ }
+{
+    if k == 0 {
+        return 0;
+    }
+    if k < count {
+        let b = scope_table::record_at(records, k);
+        return b.start;
+    }
+    used
+}
+
+// The level is set to `to`, and the records above it are dropped with their text. It never needs more than is lent.
+pub fn clear_above_in(text: &mut [u8], records: &mut [usize], head: Head, to: usize) -> Outcome
+    requires { ⌜ formOf (now text) (now records) head ≡ Good ⌝ }
+    ensures { λ r. ⌜ given (r .answer) (now (text .exit)) (now (records .exit)) (r .head)
+        ≡ lentOf (levelOf to) (now (text .entry)) (now (records .entry)) head ⌝ }
+{
+    let used = head.used;
+    let count = head.count;
+    let limit = head.limit;
+    let k = kept(records, count, to);
+    let end = text_end(records, k, count, used);
+    clear_bytes(text, end, used);
+    let row = NamespaceResolver::ROW * k;
+    let rows = NamespaceResolver::ROW * count;
+    clear_numbers(records, row, rows);
+    Outcome {
+        answer: NamespaceResult::Done,
+        head: Head {
+            used: end,
+            count: k,
+            level: to,
+            limit: limit,
+        },
+    }
+}
+
+// A level is set, on any lent memory: `NamespaceResolver::set_level`, src/name.rs.
+pub fn set_level_in(text: &mut [u8], records: &mut [usize], head: Head, to: u16) -> Outcome
+    ensures { λ r. ⌜ given (r .answer) (now (text .exit)) (now (records .exit)) (r .head)
+        ≡ lentOf (levelOf to) (now (text .entry)) (now (records .entry)) head ⌝ }
+{
+    let found = scope_table::form_in(text, records, head);
+    match found {
+        Form::WrongLength => Outcome {
+            answer: NamespaceResult::WrongLength,
+            head: head,
+        },
+        Form::Bad => Outcome {
+            answer: NamespaceResult::BadResolver,
+            head: head,
+        },
+        Form::Good => clear_above_in(text, records, head, to as usize),
+    }
+}
+
+// What was added after the first `used` bytes and `count` records is taken back.
+pub fn take_back(text: &mut [u8], records: &mut [usize], used: usize, count: usize)
+    requires { ⌜ count ≤ RECORDS ⌝ }
+    ensures { λ _. ⌜ (now (text .exit) ≡ cut (now (text .entry)) used) × (now (records .exit) ≡ cut (now (records .entry)) (rowAt count)) ⌝ }
+{
+    let bytes = text.len();
+    clear_bytes(text, used, bytes);
+    let numbers = records.len();
+    let row = NamespaceResolver::ROW * count;
+    clear_numbers(records, row, numbers);
 }

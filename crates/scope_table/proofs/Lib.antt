@@ -6,3 +6,4 @@ pub mod Pad
 pub mod Good
 pub mod Calls
 pub mod Full
+pub mod Answers

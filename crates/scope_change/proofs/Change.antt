@@ -1,0 +1,192 @@
+-- What the two changes leave of lent memory, for each `return` of the calls: a binding is refused, not held, or written; the
+-- records that stay are counted from the end, and their text ends where the next one starts.
+use Prim.Native.Nat.{ℕ, zero, suc, _+_, _-_, _≤_, _<_}
+use mathlib.Core.Path.{_≡_, refl, sym, ap, _∙_}
+use mathlib.Core.Bool.{Bool, true, false, _&&_, false≢true}
+use mathlib.Core.List.{List, [], _∷_, _++_}
+use mathlib.Core.Logic.{⊎-elim}
+use native.Mathlib.Nat.{not-suc-le-zero, eq-or-lt-of-le}
+use native.Mathlib.Numerals.{sub-one}
+use native.Mathlib.Omega.{arith}
+use lib.Dec.{eqb, leb, ltb}
+use lib.ListN.{length, take, drop, length-append}
+use borrow.Author.Tests.{leb-false, ltb-false, ne-eqb, le-leb, lt-leb, lt-ltb, le-ltb}
+use Rattle.scan.specs.First.{pick}
+use Rattle.scan.specs.Lists.{over}
+use Rattle.scope_table.specs.Lists.{allZero, cut}
+use Rattle.scope_table.specs.Records.{rowAt, recordAt, bindingOf, rowOf}
+use Rattle.scope_table.specs.Table.{TEXT, RECORDS, NUMBERS, headOf, resolverOf, textOf, validOf}
+use Rattle.scope_table.specs.Answer.{isDone, changed}
+use Rattle.scope_table.specs.Lent.{padTo, standsFor, holdsOf, fitsOf, given, lentOf, formOf}
+use Rattle.scope_table.specs.declared.Head.{Head}
+use Rattle.scope_table.specs.declared.NamespaceBinding.{NamespaceBinding}
+use Rattle.scope_table.specs.declared.NamespaceResolver.{NamespaceResolver}
+use Rattle.scope_table.specs.declared.NamespaceResult.{NamespaceResult}
+use Rattle.scope_table.specs.declared.NamespaceResult.the-variants.{Done, TooManyBindings, BindingTableFull, TextFull, BadResolver, LendMore}
+use Rattle.scope_table.proofs.Lists.{and-left, and-right, and-take}
+use Rattle.scope_table.proofs.Turns.{text-grows}
+use Rattle.scope_table.proofs.Pad.{pad-records, pad-over, pad-cut, holds-within, holds-is}
+use Rattle.scope_table.proofs.Good.{Ready}
+use Rattle.scope_table.proofs.Calls.{unchanged, changes, lends-more}
+use Rattle.scope_change.specs.Change.{boundOf, refusalOf, appendOf, lentRefusalOf, keptAt, endOf, keptOf, droppedOf, levelOf}
+use Rattle.scope_change.specs.Asked.{CanAppend}
+use Rattle.scope_change.specs.declared.Room.{Room}
+
+-- Room for a binding.
+
+room-not : (limit : ℕ) (t₁ t₂ t₃ : Bool) → isDone (pick t₁ (TooManyBindings limit) (pick t₂ BindingTableFull (pick t₃ TextFull Done))) ≡ true → (t₂ ≡ false) × (t₃ ≡ false)
+room-not limit true t₂ t₃ e = absurd (false≢true e)
+room-not limit false true t₃ e = absurd (false≢true e)
+room-not limit false false true e = absurd (false≢true e)
+room-not limit false false false e = (refl, refl)
+
+pub room-has : (room : Room) (head : Head) (size : ℕ) → isDone (refusalOf room head size) ≡ true → (head .count < room .records) × (head .used + size ≤ room .bytes)
+unfolding refusalOf
+room-has room head size e =
+    let b = room-not (head .limit) (leb (head .limit) (head .count - 2)) (leb (room .records) (head .count)) (ltb (room .bytes) (head .used + size)) e in
+    (leb-false (room .records) (head .count) (b .0), ltb-false (room .bytes) (head .used + size) (b .1))
+
+module _ (bytes numbers : ℕ) (room : Room) (head : Head) (size : ℕ) where
+  lent-by : (t u : Bool) (a : NamespaceResult) → isDone (pick t (pick u Done LendMore) a) ≡ true → (t ≡ false → isDone a ≡ false) → (t ≡ true) × (u ≡ true)
+  lent-by true true a e f = (refl, refl)
+  lent-by true false a e f = absurd (false≢true e)
+  lent-by false u a e f = absurd (false≢true (sym (f refl) ∙ e))
+
+  -- a binding that goes in has room, and what is lent holds it
+  pub lent-has : isDone (lentRefusalOf bytes numbers room head size) ≡ true → (isDone (refusalOf room head size) ≡ true) × (fitsOf bytes numbers (head .used + size) (head .count + 1) ≡ true)
+  unfolding lentRefusalOf
+  lent-has e = lent-by (isDone (refusalOf room head size)) (fitsOf bytes numbers (head .used + size) (head .count + 1)) (refusalOf room head size) e (λ f. f)
+
+  pub lent-holds : CanAppend bytes numbers head room → isDone (lentRefusalOf bytes numbers room head size) ≡ true → (head .used + size ≤ bytes) × (rowAt (head .count + 1) ≤ numbers)
+  unfolding fitsOf
+  lent-holds w e =
+      let h = lent-has e in
+      let r = room-has room head size (h .0) in
+      let b = holds-within TEXT bytes (head .used + size) (omega (arith, w .few-bytes, r .1)) (and-left (holdsOf TEXT bytes (head .used + size)) _ (h .1)) in
+      let m : rowAt (head .count + 1) ≤ NUMBERS = omega (arith, w .few-records, r .0) in
+      let n = holds-within NUMBERS numbers (rowAt (head .count + 1)) m (and-right (holdsOf TEXT bytes (head .used + size)) _ (h .1)) in
+      (b .1, n .1)
+
+  -- the three ways in which the answer is found
+  pub lent-refused : (a : NamespaceResult) → a ≡ refusalOf room head size → isDone a ≡ false → a ≡ lentRefusalOf bytes numbers room head size
+  unfolding lentRefusalOf
+  lent-refused a e n = rw (← e, n)
+
+  pub lent-yes : (a : NamespaceResult) → a ≡ refusalOf room head size → a ≡ Done → fitsOf bytes numbers (head .used + size) (head .count + 1) ≡ true → Done ≡ lentRefusalOf bytes numbers room head size
+  unfolding lentRefusalOf
+  lent-yes a e d f = rw (← e, d, f)
+
+  pub lent-no : (a : NamespaceResult) → a ≡ refusalOf room head size → a ≡ Done → fitsOf bytes numbers (head .used + size) (head .count + 1) ≡ false → LendMore ≡ lentRefusalOf bytes numbers room head size
+  unfolding lentRefusalOf
+  lent-no a e d f = rw (← e, d, f)
+
+-- One binding more.
+module _ (text records : List ℕ) (head : Head) (room : Room) (w : CanAppend (length text) (length records) head room) (p v : List ℕ) where
+  abbrev size : ℕ
+  size = length p + length v
+
+  abbrev HoldsIt : Bool → Type 0
+  HoldsIt t = fitsOf (length text) (length records) (head .used + size) (head .count + 1) ≡ t
+
+  abbrev Meant : NamespaceResult → Type 0
+  Meant a = given a text records head ≡ lentOf (appendOf room p v) text records head
+
+  refuses : isDone (refusalOf room head size) ≡ false → Meant (refusalOf room head size)
+  unfolding appendOf
+  refuses n = unchanged text records head (w .fit) (appendOf room p v) (refusalOf room head size) (rw n)
+
+  lacks : isDone (refusalOf room head size) ≡ true → HoldsIt false → Meant LendMore
+  unfolding appendOf boundOf
+  lacks d f = lends-more text records head (w .fit) (appendOf room p v) Done (boundOf p v (standsFor text records head)) (rw d) f
+
+  -- what the call does where it does not write
+  pub append-not : (a : NamespaceResult) → a ≡ lentRefusalOf (length text) (length records) room head size → isDone a ≡ false → Meant a
+  unfolding lentRefusalOf
+  append-not a e n = by (isDone (refusalOf room head size)) (fitsOf (length text) (length records) (head .used + size) (head .count + 1)) refl refl where
+    by : (t u : Bool) → isDone (refusalOf room head size) ≡ t → HoldsIt u → Meant a
+    by false u q h = rw (e, q) (refuses q)
+    by true false q h = rw (e, q, h) (lacks q h)
+    by true true q h = absurd (false≢true (sym n ∙ ap isDone e ∙ rw (q, h)))
+
+  -- and where it does
+  pub append-done : Done ≡ lentRefusalOf (length text) (length records) room head size → given Done (over text (head .used) (p ++ v)) (over records (rowAt (head .count)) (rowOf (bindingOf (head .used) (length p) (length v) (head .level)))) (headOf (head .used + size) (head .count + 1) (head .level) (head .limit)) ≡ lentOf (appendOf room p v) text records head
+  unfolding appendOf boundOf
+  append-done e =
+      let d = lent-has (length text) (length records) room head size (ap isDone (sym e)) in
+      let h = lent-holds (length text) (length records) room head size w (ap isDone (sym e)) in
+      let n : head .used + length (p ++ v) ≤ length text = omega (arith, length-append p v, h .0) in
+      changes text records head (w .fit) (appendOf room p v) Done (boundOf p v (standsFor text records head)) _ _ (rw (d .0)) (d .1)
+      (pad-over TEXT text (head .used) (p ++ v) n)
+      (pad-over NUMBERS records (rowAt (head .count)) (rowOf (bindingOf (head .used) (length p) (length v) (head .level))) (omega (arith, h .1)))
+
+-- The records that are kept: one turn.
+module _ (rows : ℕ → NamespaceBinding) (v : ℕ) where
+  level-is : (i : ℕ) (b : NamespaceBinding) → b ≡ rows i → rows i .level ≡ b .level
+  level-is i b e = ap (λ (x : NamespaceBinding). x .level) (sym e)
+
+  pub keep-hit : (i : ℕ) (b : NamespaceBinding) → 0 < i → b ≡ rows (i - 1) → b .level ≤ v → keptAt rows v i ≡ i
+  unfolding keptAt
+  keep-hit zero b p e h = absurd (not-suc-le-zero p)
+  keep-hit (suc j) b p e h =
+      let k : b ≡ rows j = rw (sub-one (suc j)) at e in
+      rw (le-leb (rows j .level) v (omega (arith, level-is j b k)))
+
+  pub keep-miss : (i : ℕ) (b : NamespaceBinding) → 0 < i → b ≡ rows (i - 1) → v < b .level → keptAt rows v i ≡ keptAt rows v (i - 1)
+  unfolding keptAt
+  keep-miss zero b p e h = absurd (not-suc-le-zero p)
+  keep-miss (suc j) b p e h =
+      let k : b ≡ rows j = rw (sub-one (suc j)) at e in
+      rw (lt-leb (rows j .level) v (omega (arith, level-is j b k)), sub-one (suc j))
+
+  keep-step : (n : ℕ) → keptAt rows v n ≤ n → (t : Bool) → leb (rows n .level) v ≡ t → keptAt rows v (suc n) ≤ suc n
+  unfolding keptAt
+  keep-step n h true e = rw e (omega arith)
+  keep-step n h false e = rw e (omega arith)
+
+  pub keep-within : (n : ℕ) → keptAt rows v n ≤ n
+  unfolding keptAt
+  keep-within zero = omega arith
+  keep-within (suc n) = keep-step n (keep-within n) (leb (rows n .level) v) refl
+
+-- Where the text of the kept records ends, by what they say and by their lengths.
+pub end-is : (rows : ℕ → NamespaceBinding) (k n used : ℕ) → k ≤ n → ((j : ℕ) → j < n → rows j .start ≡ textOf rows j) → textOf rows n ≡ used → endOf rows k n used ≡ textOf rows k
+unfolding endOf textOf
+end-is rows zero n used h links ends = refl
+end-is rows (suc k) n used h links ends =
+    ⊎-elim (λ (q : suc k ≡ n). rw (ne-eqb (suc k) 0 (λ z. omega arith), le-ltb (suc k) n (omega arith)) (sym ends ∙ ap (textOf rows) (sym q)))
+    (λ (l : suc k < n). rw (ne-eqb (suc k) 0 (λ z. omega arith), lt-ltb (suc k) n l) (links (suc k) l))
+    (eq-or-lt-of-le h)
+
+-- The records above a level dropped.
+module _ (text records : List ℕ) (head : Head) (ok : Ready text records head) (to k e : ℕ) (ek : k ≡ keptAt (recordAt records) to (head .count)) (ee : e ≡ endOf (recordAt records) k (head .count) (head .used)) where
+  pub k-within : k ≤ head .count
+  k-within = rw ek (keep-within (recordAt records) to (head .count))
+
+  e-text : e ≡ textOf (recordAt records) k
+  e-text = ee ∙ end-is (recordAt records) k (head .count) (head .used) k-within (ok .table .links) (ok .table .ends)
+
+  e-within : e ≤ head .used
+  e-within = omega (arith, e-text, ok .table .ends, text-grows (recordAt records) k (head .count) k-within)
+
+  still-fits : fitsOf (length text) (length records) e k ≡ true
+  unfolding fitsOf
+  still-fits =
+      and-take (holds-is TEXT (length text) e (ok .bytes-most) (omega (arith, e-within, ok .bytes-lent)))
+      (holds-is NUMBERS (length records) (rowAt k) (ok .numbers-most) (omega (arith, k-within, ok .rows-lent)))
+
+  drops : levelOf to (standsFor text records head) ≡ changed Done (resolverOf (cut (padTo TEXT text) e) (cut (padTo NUMBERS records) (rowAt k)) (headOf e k to (head .limit)))
+  unfolding levelOf droppedOf keptOf
+  drops = rw (ok .valid, pad-records NUMBERS records, ← ek, ← e-text)
+
+  -- what the clears leave is what is meant
+  pub level-done : (t r : List ℕ) → t ≡ cut text e → r ≡ cut records (rowAt k) → given Done t r (headOf e k to (head .limit)) ≡ lentOf (levelOf to) text records head
+  level-done t r p q =
+      changes text records head (ok .fit) (levelOf to) Done _ t r drops still-fits
+      (pad-cut TEXT text e (ok .bytes-most) (omega (arith, e-within, ok .bytes-lent)) ∙ sym p)
+      (pad-cut NUMBERS records (rowAt k) (ok .numbers-most) (omega (arith, k-within, ok .rows-lent)) ∙ sym q)
+
+-- nothing is past the end
+pub all-read : (t : List ℕ) → allZero (drop (length t) t) ≡ true
+unfolding allZero
+all-read [] = refl
+all-read (x ∷ t) = all-read t

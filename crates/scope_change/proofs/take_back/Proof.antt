@@ -1,0 +1,35 @@
+-- `scope_change::take_back` meets its contract: nothing stands after the end.
+use native.Mathlib.Omega.{arith}
+use Rattle.scope_change.proofs.Change.{all-read}
+use borrow.Author.Needs.{needs}
+use Rattle.scope_change.proofs.take_back.Statement.{statement}
+use Rattle.scope_change.proofs.take_back.Tie as tie
+
+clear-bytes-requires : tie.Need-clear-bytes-requires
+clear-bytes-requires c κs = (omega arith, all-read (c .before .before .before .args .text .now))
+
+mul-row : tie.Need-mul-row
+mul-row c = search needs
+
+clear-numbers-requires : tie.Need-clear-numbers-requires
+clear-numbers-requires c κs = (omega arith, all-read (c .before .before .before .before .before .before .before .args .records .now))
+
+same-length : tie.Need-same-length
+same-length c = search needs
+
+same-length-2 : tie.Need-same-length-2
+same-length-2 c = search needs
+
+returns : tie.Need-returns
+returns c = search needs
+
+pub take-back-spec : {M : Type 1} → statement M
+take-back-spec =
+    tie.close
+    (tie.spec
+    clear-bytes-requires
+    mul-row
+    clear-numbers-requires
+    same-length
+    same-length-2
+    returns)
