@@ -13,7 +13,7 @@ use lib.ListN.{length, take, drop, length-append}
 use borrow.Author.Tests.{leb-false, ltb-false, ne-eqb, le-leb, lt-leb, lt-ltb, le-ltb}
 use Rattle.scan.specs.First.{pick}
 use Rattle.scan.specs.Lists.{over}
-use Rattle.scope_table.specs.Lists.{allZero, cut}
+use Rattle.scope_table.specs.Lists.{cut}
 use Rattle.scope_table.specs.Records.{rowAt, recordAt, bindingOf, rowOf}
 use Rattle.scope_table.specs.Table.{TEXT, RECORDS, NUMBERS, headOf, resolverOf, textOf, validOf}
 use Rattle.scope_table.specs.Answer.{isDone, changed}
@@ -184,9 +184,3 @@ module _ (text records : List ℕ) (head : Head) (ok : Ready text records head) 
       changes text records head (ok .fit) (levelOf to) Done _ t r drops still-fits
       (pad-cut TEXT text e (ok .bytes-most) (omega (arith, e-within, ok .bytes-lent)) ∙ sym p)
       (pad-cut NUMBERS records (rowAt k) (ok .numbers-most) (omega (arith, k-within, ok .rows-lent)) ∙ sym q)
-
--- nothing is past the end
-pub all-read : (t : List ℕ) → allZero (drop (length t) t) ≡ true
-unfolding allZero
-all-read [] = refl
-all-read (x ∷ t) = all-read t

@@ -3,10 +3,9 @@
 // Ports of `add` and `set_level` of `NamespaceResolver` what they do to the buffer and the bindings (src/name.rs). The
 // functions work on lent memory that may be shorter than the capacity (scope_table, specs/Lent).
 ghost use mathlib.Core.Path.{_≡_};
-ghost use mathlib.Core.Bool.{true};
 ghost use Prim.Native.Nat.{_+_, _-_, _≤_};
-ghost use lib.ListN.{length, drop};
-ghost use Rattle.scope_table.specs.Lists.{allZero, cut};
+ghost use lib.ListN.{length};
+ghost use Rattle.scope_table.specs.Lists.{cut};
 ghost use Rattle.scope_table.specs.Records.{rowAt, recordAt};
 ghost use Rattle.scope_table.specs.Table.{RECORDS};
 ghost use Rattle.scope_table.specs.Lent.{given, lentOf, formOf};
@@ -24,30 +23,6 @@ use scope_table::Outcome;
 pub struct Room {
     pub records: usize,
     pub bytes: usize,
-}
-
-// Writes zeros into a text from `from` up to `to`, from where on there are only zeros.
-fn clear_bytes(t: &mut [u8], from: usize, to: usize)
-    requires { ⌜ (to ≤ length (now t)) × (allZero (drop to (now t)) ≡ true) ⌝ }
-    ensures { λ _. ⌜ now (t .exit) ≡ cut (now (t .entry)) from ⌝ }
-{
-    let mut i = from;
-    while i < to {
-        t[i] = 0;
-        i += 1;
-    }
-}
-
-// The same in the records.
-fn clear_numbers(t: &mut [usize], from: usize, to: usize)
-    requires { ⌜ (to ≤ length (now t)) × (allZero (drop to (now t)) ≡ true) ⌝ }
-    ensures { λ _. ⌜ now (t .exit) ≡ cut (now (t .entry)) from ⌝ }
-{
-    let mut i = from;
-    while i < to {
-        t[i] = 0;
-        i += 1;
-    }
 }
 
 // What is left of `all` when `some` are taken: `saturating_sub` of the standard library.
@@ -214,10 +189,10 @@ pub fn clear_above_in(text: &mut [u8], records: &mut [usize], head: Head, to: us
     let limit = head.limit;
     let k = kept(records, count, to);
     let end = text_end(records, k, count, used);
-    clear_bytes(text, end, used);
+    scope_table::clear_bytes(text, end, used);
     let row = NamespaceResolver::ROW * k;
     let rows = NamespaceResolver::ROW * count;
-    clear_numbers(records, row, rows);
+    scope_table::clear_numbers(records, row, rows);
     Outcome {
         answer: NamespaceResult::Done,
         head: Head {
@@ -254,8 +229,8 @@ pub fn take_back(text: &mut [u8], records: &mut [usize], used: usize, count: usi
     ensures { λ _. ⌜ (now (text .exit) ≡ cut (now (text .entry)) used) × (now (records .exit) ≡ cut (now (records .entry)) (rowAt count)) ⌝ }
 {
     let bytes = text.len();
-    clear_bytes(text, used, bytes);
+    scope_table::clear_bytes(text, used, bytes);
     let numbers = records.len();
     let row = NamespaceResolver::ROW * count;
-    clear_numbers(records, row, numbers);
+    scope_table::clear_numbers(records, row, numbers);
 }

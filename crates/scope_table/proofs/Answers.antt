@@ -7,7 +7,9 @@ use mathlib.Core.Logic.{⊎-elim}
 use types.Run.{OneOf}
 use denote.Enum.Declared.{tagOf}
 use borrow.Author.Tests.{eqb-false}
-use Rattle.scope_table.specs.Answer.{isDone}
+use lib.Dec.{eqb}
+use Rattle.scan.specs.First.{pick}
+use Rattle.scope_table.specs.Answer.{changeNumbers, isDone}
 use Rattle.scope_table.specs.declared.NamespaceResult.{NamespaceResult}
 use Rattle.scope_table.specs.declared.NamespaceResult.the-variants.{Done, InvalidXmlPrefixBind, InvalidXmlnsPrefixBind, InvalidPrefixForXml, InvalidPrefixForXmlns, TooManyBindings, TooDeeplyNested, BindingTableFull, TextFull, BadResolver, LendMore, WrongLength}
 use Rattle.scope_table.proofs.NamespaceResult as E
@@ -26,3 +28,49 @@ refused TextFull k = refl
 refused BadResolver k = refl
 refused LendMore k = refl
 refused WrongLength k = refl
+
+-- An answer read back from its numbers.
+
+abbrev three : ℕ → ℕ → ℕ → NamespaceResult
+three n a e =
+    pick (eqb n 12) (InvalidXmlPrefixBind a e)
+    (pick (eqb n 13) (InvalidXmlnsPrefixBind a e)
+    (pick (eqb n 14) (InvalidPrefixForXml a e)
+    (InvalidPrefixForXmlns a e)))
+
+abbrev two : ℕ → ℕ → NamespaceResult
+two n a = pick (eqb n 16) (TooManyBindings a) (TooDeeplyNested a)
+
+abbrev one : ℕ → NamespaceResult
+one n =
+    pick (eqb n 18) BindingTableFull
+    (pick (eqb n 19) TextFull
+    (pick (eqb n 20) BadResolver
+    (pick (eqb n 98) LendMore
+    (pick (eqb n 99) WrongLength
+    Done))))
+
+abbrev read : List ℕ → NamespaceResult
+read [] = Done
+read (n ∷ []) = one n
+read (n ∷ a ∷ []) = two n a
+read (n ∷ a ∷ e ∷ rest) = three n a e
+
+back : (a : NamespaceResult) → read (changeNumbers a) ≡ a
+unfolding changeNumbers
+back Done = refl
+back (InvalidXmlPrefixBind a e) = refl
+back (InvalidXmlnsPrefixBind a e) = refl
+back (InvalidPrefixForXml a e) = refl
+back (InvalidPrefixForXmlns a e) = refl
+back (TooManyBindings limit) = refl
+back (TooDeeplyNested depth) = refl
+back BindingTableFull = refl
+back TextFull = refl
+back BadResolver = refl
+back LendMore = refl
+back WrongLength = refl
+
+-- answers with the same numbers are the same
+pub numbers-tell : (a b : NamespaceResult) → changeNumbers a ≡ changeNumbers b → a ≡ b
+numbers-tell a b e = sym (back a) ∙ ap read e ∙ back b

@@ -7,3 +7,4 @@ pub mod Good
 pub mod Calls
 pub mod Full
 pub mod Answers
+pub mod Fresh

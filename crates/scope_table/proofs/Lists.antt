@@ -105,6 +105,12 @@ zeros-later t a b h e =
     let s : a + (b - a) ≡ b = omega arith in
     rw (← s, ← drop-drop (b - a) a t) (zeros-drop (b - a) (drop a t) e)
 
+-- nothing is past the end
+pub all-read : (t : List ℕ) → allZero (drop (length t) t) ≡ true
+unfolding allZero
+all-read [] = refl
+all-read (x ∷ t) = all-read t
+
 -- Zeros written from a place on.
 
 -- nothing is to be written where there are zeros already

@@ -7,12 +7,13 @@ use lib.ListN.{length, take, replicate}
 use lib.Dec.{leb, ltb}
 use Rattle.scan.specs.First.{pick}
 use Rattle.scope_table.specs.Records.{rowAt}
-use Rattle.scope_table.specs.Table.{TEXT, NUMBERS, resolverOf, validOf}
+use Rattle.scope_table.specs.Table.{TEXT, NUMBERS, resolverOf, validOf, freshOf}
+use Rattle.scope_table.specs.Answer.{changed}
 use Rattle.scope_table.specs.declared.Head.{Head}
 use Rattle.scope_table.specs.declared.NamespaceResolver.{NamespaceResolver}
 use Rattle.scope_table.specs.declared.Changed.{Changed}
 use Rattle.scope_table.specs.declared.NamespaceResult.{NamespaceResult}
-use Rattle.scope_table.specs.declared.NamespaceResult.the-variants.{LendMore, WrongLength}
+use Rattle.scope_table.specs.declared.NamespaceResult.the-variants.{Done, LendMore, WrongLength}
 use Rattle.scope_table.specs.declared.Form as Found
 use Rattle.scope_table.specs.declared.Form.the-variants as Is
 
@@ -62,6 +63,13 @@ heldOf text records head c =
 unfoldable pub lentOf : (NamespaceResolver → Changed) → (text records : List ℕ) → Head → Given
 lentOf call text records head =
     lent (given WrongLength text records head) (λ x. heldOf text records head (call x)) text records head
+
+-- The fresh resolver in lent memory, whatever stood there: all of what is lent is written. It needs 73 bytes and two rows.
+unfoldable pub freshIn : (text records : List ℕ) → Head → Given
+freshIn text records head =
+    pick (leb (length text) TEXT && leb (length records) NUMBERS)
+    (heldOf text records head (changed Done freshOf))
+    (given WrongLength text records head)
 
 -- What each call tests first.
 unfoldable pub formOf : (text records : List ℕ) → Head → Found.Form

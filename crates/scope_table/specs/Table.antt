@@ -33,6 +33,10 @@ DEEPEST = 65535
 unfoldable pub builtIn : List ℕ
 builtIn = bytes "xmlhttp://www.w3.org/XML/1998/namespacexmlnshttp://www.w3.org/2000/xmlns/"
 
+-- Their records, at level 0: `xml` and its URI, 3 and 36 bytes, `xmlns` and its URI, 5 and 29.
+abbrev pub builtInRows : List ℕ
+builtInRows = rowOf (bindingOf 0 3 36 0) ++ rowOf (bindingOf 39 5 29 0)
+
 -- a head, and a resolver, of these parts
 abbrev pub headOf : (used count level limit : ℕ) → Head
 headOf used count level limit = record { used = used; count = count; level = level; limit = limit }
@@ -101,5 +105,5 @@ validOf x = isTable (x .text) (x .records) (x .head)
 unfoldable pub freshOf : NamespaceResolver
 freshOf =
     resolverOf (builtIn ++ replicate (TEXT - 73) 0)
-    (rowOf (bindingOf 0 3 36 0) ++ rowOf (bindingOf 39 5 29 0) ++ replicate (NUMBERS - 2 * ROW) 0)
+    (builtInRows ++ replicate (NUMBERS - 2 * ROW) 0)
     (headOf 73 2 0 LIMIT)

@@ -21,11 +21,11 @@ ghost use mathlib.Core.List.{[], _∷_};
 ghost use lib.ListN.{length, take, drop};
 ghost use Rattle.scan.specs.Bytes.{sameBytes};
 ghost use Rattle.scan.specs.Lists.{over};
-ghost use Rattle.scope_table.specs.Lists.{allZero};
+ghost use Rattle.scope_table.specs.Lists.{allZero, cut};
 ghost use Rattle.scope_table.specs.Records.{rowAt, recordAt, rowOf, valueStart, valueEnd, prefixIn, valueIn};
-ghost use Rattle.scope_table.specs.Table.{builtIn, isRecord, opensBuiltIn, isChain, isRising, isWithin, isTable};
+ghost use Rattle.scope_table.specs.Table.{builtIn, builtInRows, isRecord, opensBuiltIn, isChain, isRising, isWithin, isTable, validOf, freshOf};
 ghost use Rattle.scope_table.specs.Answer.{changeNumbers, toldOf};
-ghost use Rattle.scope_table.specs.Lent.{holdsOf, fitsOf, formOf};
+ghost use Rattle.scope_table.specs.Lent.{holdsOf, fitsOf, given, freshIn, formOf};
 
 // The two arrays of a resolver: its text, and its records as numbers.
 pub type Text = [u8; NamespaceResolver::TEXT];
@@ -146,6 +146,35 @@ impl NamespaceResolver {
     pub const BUILT_IN_LEN: usize = 73;
 
     pub const BUILT_INS: usize = 2;
+
+    // The fresh resolver: `NamespaceResolver::default`, src/name.rs.
+    pub fn fresh() -> Self
+        ensures { λ r. ⌜ r ≡ freshOf ⌝ }
+    {
+        let mut text = [0u8; NamespaceResolver::TEXT];
+        let mut records = [0usize; NamespaceResolver::NUMBERS];
+        let none = Head {
+            used: 0,
+            count: 0,
+            level: 0,
+            limit: 0,
+        };
+        let made = fresh_in(&mut text, &mut records, none);
+        let head = made.head;
+        NamespaceResolver {
+            text: text,
+            records: records,
+            head: head,
+        }
+    }
+
+    // Whether the resolver is of the form that every call asks for.
+    pub fn valid(self) -> bool
+        ensures { λ r. ⌜ r ≡ validOf self ⌝ }
+    {
+        let head = self.head;
+        is_table(&self.text, &self.records, head)
+    }
 }
 
 impl NamespaceBinding {
@@ -204,6 +233,30 @@ pub fn put(text: &mut [u8], at: usize, s: &[u8])
     let mut i = 0;
     while i < s.len() {
         text[at + i] = s[i];
+        i += 1;
+    }
+}
+
+// Writes zeros into a text from `from` up to `to`, from where on there are only zeros.
+pub fn clear_bytes(t: &mut [u8], from: usize, to: usize)
+    requires { ⌜ (to ≤ length (now t)) × (allZero (drop to (now t)) ≡ true) ⌝ }
+    ensures { λ _. ⌜ now (t .exit) ≡ cut (now (t .entry)) from ⌝ }
+{
+    let mut i = from;
+    while i < to {
+        t[i] = 0;
+        i += 1;
+    }
+}
+
+// The same in the records.
+pub fn clear_numbers(t: &mut [usize], from: usize, to: usize)
+    requires { ⌜ (to ≤ length (now t)) × (allZero (drop to (now t)) ≡ true) ⌝ }
+    ensures { λ _. ⌜ now (t .exit) ≡ cut (now (t .entry)) from ⌝ }
+{
+    let mut i = from;
+    while i < to {
+        t[i] = 0;
         i += 1;
     }
 }
@@ -445,6 +498,73 @@ pub fn form_in<'a>(text: &'a [u8], records: &'a [usize], head: Head) -> Form
         return Form::Bad;
     }
     Form::Good
+}
+
+// Whatever the lent memory held: the fresh resolver stands there then. `head` comes back where nothing is written.
+pub fn fresh_in(text: &mut [u8], records: &mut [usize], head: Head) -> Outcome
+    ensures { λ r. ⌜ given (r .answer) (now (text .exit)) (now (records .exit)) (r .head)
+        ≡ freshIn (now (text .entry)) (now (records .entry)) head ⌝ }
+{
+    let bytes = text.len();
+    let numbers = records.len();
+    if NamespaceResolver::TEXT < bytes {
+        return Outcome {
+            answer: NamespaceResult::WrongLength,
+            head: head,
+        };
+    }
+    if NamespaceResolver::NUMBERS < numbers {
+        return Outcome {
+            answer: NamespaceResult::WrongLength,
+            head: head,
+        };
+    }
+    if !fits(
+        bytes,
+        numbers,
+        NamespaceResolver::BUILT_IN_LEN,
+        NamespaceResolver::BUILT_INS,
+    ) {
+        return Outcome {
+            answer: NamespaceResult::LendMore,
+            head: head,
+        };
+    }
+    clear_bytes(text, 0, bytes);
+    clear_numbers(records, 0, numbers);
+    write_built_in(text, records);
+    Outcome {
+        answer: NamespaceResult::Done,
+        head: Head {
+            used: NamespaceResolver::BUILT_IN_LEN,
+            count: NamespaceResolver::BUILT_INS,
+            level: 0,
+            limit: NamespaceResolver::LIMIT,
+        },
+    }
+}
+
+// Writes the built-ins, their text and their records.
+fn write_built_in(text: &mut [u8], records: &mut [usize])
+    requires { ⌜ (73 ≤ length (now text)) × (rowAt 2 ≤ length (now records)) ⌝ }
+    ensures { λ _. ⌜ (now (text .exit) ≡ over (now (text .entry)) 0 builtIn) × (now (records .exit) ≡ over (now (records .entry)) 0 builtInRows) ⌝ }
+{
+    let built_in = NamespaceResolver::BUILT_IN;
+    put(text, 0, &built_in);
+    let xml = NamespaceBinding {
+        start: 0,
+        prefix_len: NamespaceResolver::XML_PREFIX_LEN,
+        value_len: NamespaceResolver::XML_URI_LEN,
+        level: 0,
+    };
+    write_record(records, 0, xml);
+    let xmlns = NamespaceBinding {
+        start: NamespaceResolver::XMLNS_START,
+        prefix_len: NamespaceResolver::XMLNS_PREFIX_LEN,
+        value_len: NamespaceResolver::XMLNS_URI_LEN,
+        level: 0,
+    };
+    write_record(records, 1, xmlns);
 }
 
 // The numbers of an answer.

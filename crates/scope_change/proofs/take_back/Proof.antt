@@ -1,6 +1,6 @@
 -- `scope_change::take_back` meets its contract: nothing stands after the end.
 use native.Mathlib.Omega.{arith}
-use Rattle.scope_change.proofs.Change.{all-read}
+use Rattle.scope_table.proofs.Lists.{all-read}
 use borrow.Author.Needs.{needs}
 use Rattle.scope_change.proofs.take_back.Statement.{statement}
 use Rattle.scope_change.proofs.take_back.Tie as tie

@@ -1,4 +1,4 @@
--- `scope_change::clear_numbers` meets its contract: cutting what stands there after some turns at i is cutting what stood there at
+-- `scope_table::clear_numbers` meets its contract: cutting what stands there after some turns at i is cutting what stood there at
 -- `from`. The measure is what is left up to `to`.
 use Prim.Native.Nat.{_<_, _-_}
 use mathlib.Core.Path.{_≡_, refl, sym, _∙_}
@@ -7,10 +7,10 @@ use native.Mathlib.Omega.{arith}
 use borrow.Author.Needs.{needs}
 use lib.ListN.{length, drop, length-set}
 use lib.Seq.{drop-set-lt}
 use Rattle.scope_table.specs.Lists.{allZero, cut}
 use Rattle.scope_table.proofs.Lists.{cut-next, cut-zeros, zeros-later}
-use Rattle.scope_change.proofs.clear_numbers.Statement.{statement}
-use Rattle.scope_change.proofs.clear_numbers.Tie as tie
+use Rattle.scope_table.proofs.clear_numbers.Statement.{statement}
+use Rattle.scope_table.proofs.clear_numbers.Tie as tie
 
 abbrev Inv-loop : tie.InvT-loop
 Inv-loop t₀ from to i₀ t i = (length t ≡ length t₀) × (drop to t ≡ drop to t₀) × (cut t i ≡ cut t₀ from)
