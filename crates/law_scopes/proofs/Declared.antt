@@ -1,21 +1,17 @@
 -- What one binding more keeps, every declaration keeps, and so do all declarations of a tag.
-use Prim.Native.Nat.{ℕ, _+_, _-_}
-use mathlib.Core.Path.{_≡_, refl}
-use mathlib.Core.Bool.{Bool, true, false, false≢true}
+use Prim.Native.Nat.{ℕ, _+_}
+use mathlib.Core.Path.{_≡_}
+use mathlib.Core.Bool.{true}
 use mathlib.Core.List.{List, [], _∷_}
-use lib.Dec.{leb, ltb}
 use lib.ListN.{length}
-use borrow.Author.Tests.{leb-false, ltb-false}
-use Rattle.scan.specs.First.{pick}
 use Rattle.scan.proofs.Laws.{picks}
 use Rattle.name.specs.declared.Declares.{Declares}
-use Rattle.scope_table.specs.Table.{TEXT, RECORDS}
 use Rattle.scope_table.specs.Answer.{isDone}
 use Rattle.scope_table.specs.declared.NamespaceResolver.{NamespaceResolver}
 use Rattle.scope_table.specs.declared.NamespaceResult.{NamespaceResult}
-use Rattle.scope_table.specs.declared.NamespaceResult.the-variants.{Done, TooManyBindings, BindingTableFull, TextFull}
 use Rattle.scope_table.specs.declared.Changed.{Changed}
 use Rattle.scope_change.specs.Change.{whole, boundOf, refusalOf, appendOf}
+use Rattle.scope_change.proofs.Change.{room-has}
 use Rattle.scope_declare.specs.declared.Places.{Places}
 use Rattle.scope_declare.specs.declared.Judged.{Judged}
 use Rattle.scope_declare.specs.declared.Judged.the-variants.{Keep, Bind}
@@ -27,21 +23,11 @@ use Rattle.law_scopes.proofs.Bound.{Takes}
 abbrev pub refusal : NamespaceResolver → (prefix value : List ℕ) → NamespaceResult
 refusal x p v = refusalOf whole (x .head) (length p + length v)
 
-done-not : (t₁ t₂ t₃ : Bool) (limit : ℕ) →
-    isDone (pick t₁ (TooManyBindings limit) (pick t₂ BindingTableFull (pick t₃ TextFull Done))) ≡ true → (t₂ ≡ false) × (t₃ ≡ false)
-done-not true t₂ t₃ limit e = absurd (false≢true e)
-done-not false true t₃ limit e = absurd (false≢true e)
-done-not false false true limit e = absurd (false≢true e)
-done-not false false false limit e = (refl, refl)
-
 -- a binding that goes in has its room
 pub room-of : (x : NamespaceResolver) (p v : List ℕ) → isDone (refusal x p v) ≡ true → Takes x p v
-unfolding refusalOf
 room-of x p v e =
-    let h = x .head in
-    let size = length p + length v in
-    let d = done-not (leb (h .limit) (h .count - 2)) (leb RECORDS (h .count)) (ltb TEXT (h .used + size)) (h .limit) e in
-    record { records = leb-false RECORDS (h .count) (d .0); bytes = ltb-false TEXT (h .used + size) (d .1) }
+    let h = room-has whole (x .head) (length p + length v) e in
+    record { records = h .0; bytes = h .1 }
 
 module _ (P : NamespaceResolver → Type 0) (grows : (x : NamespaceResolver) (p v : List ℕ) → Takes x p v → P x → P (boundOf p v x)) where
   append-keeps : (x : NamespaceResolver) (p v : List ℕ) → P x → P (appendOf whole p v x .resolver)

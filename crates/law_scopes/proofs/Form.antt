@@ -1,28 +1,18 @@
 -- What a table of the right form has, test by test, and back.
-use Prim.Native.Nat.{ℕ, zero, suc, _≤_, _<_}
+use Prim.Native.Nat.{ℕ, _≤_, _<_}
 use mathlib.Core.Path.{_≡_, refl}
 use mathlib.Core.Bool.{true, _&&_}
-use native.Mathlib.Omega.{arith}
 use lib.Dec.{leb}
 use lib.ListN.{take, drop}
 use borrow.Author.Tests.{eq-eqb, le-leb}
 use Rattle.scan.specs.Bytes.{sameBytes}
-use Rattle.scan.proofs.Laws.{picks}
 use Rattle.scope_table.specs.Lists.{allZero}
 use Rattle.scope_table.specs.Records.{rowAt, recordAt}
 use Rattle.scope_table.specs.Table.{TEXT, RECORDS, DEEPEST, builtIn, textOf, levelBefore, isRecord, opensBuiltIn, isChain, isRising, isWithin, isClear, isTable, validOf}
-use Rattle.scope_table.specs.declared.NamespaceBinding.{NamespaceBinding}
 use Rattle.scope_table.specs.declared.NamespaceResolver.{NamespaceResolver}
 use Rattle.scope_table.proofs.Lists.{and-left, and-right, and-take, all-of}
 use Rattle.scope_table.proofs.Turns.{linked, link-on, risen, rise-on}
 use Rattle.scope_table.proofs.Good.{formed-valid}
-use Rattle.scope_change.specs.Change.{keptAt}
-
-pub keep-within : (rows : ℕ → NamespaceBinding) (level n : ℕ) → keptAt rows level n ≤ n
-unfolding keptAt
-keep-within rows level zero = omega arith
-keep-within rows level (suc n) =
-    picks (λ (k : ℕ). k ≤ suc n) (leb (rows n .level) level) (λ e. omega arith) (λ e. omega (arith, keep-within rows level n))
 
 -- All that refusal 20 asks of a resolver, one by one.
 pub record Shaped (x : NamespaceResolver) : Type 0 where
