@@ -24,7 +24,7 @@ use Rattle.scope_table.specs.declared.NamespaceResult.{NamespaceResult}
 use Rattle.scope_table.specs.declared.NamespaceResult.the-variants.{Done, TooManyBindings, BindingTableFull, TextFull, BadResolver}
 use Rattle.scope_change.specs.Change.{whole, refusalOf, appendOf}
 use Rattle.scope_change.specs.declared.Room.{Room}
-use Rattle.scope_declare.specs.Declare.{placesOf, namedOf, judgeOf, settleOf, declareOf, addOf}
+use Rattle.scope_declare.specs.Declare.{wholly, namedOf, judgeOf, settleOf, declareOf, addOf}
 use Rattle.scope_declare.specs.Texts.{Marks, HoldsText}
 use Rattle.scope_declare.specs.declared.Places.{Places}
 use Rattle.scope_declare.specs.declared.Judged.{Judged}
@@ -76,15 +76,15 @@ whole-marks t = record { ahead = zero-le; inside = omega arith; between = take-a
 pub add-holds : (d : Declares) (p v : List ℕ) (x : NamespaceResolver) → HoldsText p v (addOf d p v x .answer) (refusedText (reservedBind p v) p v)
 unfolding addOf
 add-holds d p v x = by (validOf x) where
-  by : (t : Bool) → HoldsText p v (pick t (declareOf whole d p v (placesOf 0 (length p) 0 (length v)) x) (changed BadResolver x) .answer) (refusedText (reservedBind p v) p v)
-  by true = declare-holds p v p v (placesOf 0 (length p) 0 (length v)) (whole-marks p) (whole-marks v) whole x d
+  by : (t : Bool) → HoldsText p v (pick t (declareOf whole d p v (wholly p v) x) (changed BadResolver x) .answer) (refusedText (reservedBind p v) p v)
+  by true = declare-holds p v p v (wholly p v) (whole-marks p) (whole-marks v) whole x d
   by false = tt
 
 -- And a named declaration that is refused so has that answer, by its number.
 pub add-refuses : (p v : List ℕ) (x : NamespaceResolver) → validOf x ≡ true → (numberOf (reservedBind p v) ≡ 0 → ⊥) → getD (changeNumbers (addOf Named p v x .answer)) 0 0 ≡ numberOf (reservedBind p v)
 unfolding addOf declareOf judgeOf namedOf settleOf numberOf changeNumbers
 add-refuses p v x ok n = rw ok (by (reservedBind p v) n) where
-  by : (k : NamedCheck) → (numberOf k ≡ 0 → ⊥) → getD (changeNumbers (settleOf whole (namedOf k p (placesOf 0 (length p) 0 (length v))) p v x .answer)) 0 0 ≡ numberOf k
+  by : (k : NamedCheck) → (numberOf k ≡ 0 → ⊥) → getD (changeNumbers (settleOf whole (namedOf k p (wholly p v)) p v x .answer)) 0 0 ≡ numberOf k
   by Check.Fine n = absurd (n refl)
   by Check.AddsNothing n = absurd (n refl)
   by Check.InvalidXmlPrefixBind n = refl

@@ -55,9 +55,13 @@ settleOf room (Bind n) p v x = appendOf room (take n p) v x
 unfoldable pub declareOf : Room → Declares → (prefix value : List ℕ) → Places → NamespaceResolver → Changed
 declareOf room d p v at x = settleOf room (judgeOf d p v at) p v x
 
+-- the whole of a prefix and of a value
+abbrev pub wholly : (prefix value : List ℕ) → Places
+wholly p v = placesOf 0 (length p) 0 (length v)
+
 -- `add`: 20 comes first. What 12 to 15 hold is the whole of its argument.
 unfoldable pub addOf : Declares → (prefix value : List ℕ) → NamespaceResolver → Changed
-addOf d p v x = pick (validOf x) (declareOf whole d p v (placesOf 0 (length p) 0 (length v)) x) (changed BadResolver x)
+addOf d p v x = pick (validOf x) (declareOf whole d p v (wholly p v) x) (changed BadResolver x)
 
 -- `pop` sets one level lower, from 0 to 0.
 unfoldable pub popOf : NamespaceResolver → Changed

@@ -1,13 +1,24 @@
 // Changing a resolver: `add`, `set_level`, `pop` and the limit of `NamespaceResolver`, src/name.rs.
 //
-// Each is here twice: on lent memory, where the work is done and nothing is copied (`add_in`, `set_level_in`, `pop_in`), and
-// by value, where the new resolver is handed back. These test the form of the resolver first (refusal 20); `declare_in`,
-// reading the level, and reading or setting the limit do not.
+// Each is there twice: on lent memory, where the work is done and nothing is copied (`add_in`, `pop_in`, and `set_level_in` of
+// scope_change), and by value, where the new resolver is handed back. These test the form of the resolver first (refusal 20);
+// `declare_in`, reading the level, and reading or setting the limit do not.
 use name::Declares;
 use name::NamedCheck;
+use scope_change::Room;
+use scope_table::Changed;
+use scope_table::Form;
+use scope_table::Head;
+use scope_table::NamespaceResolver;
 use scope_table::NamespaceResult;
+use scope_table::Outcome;
 ghost use mathlib.Core.Path.{_≡_};
-ghost use Rattle.scope_declare.specs.Declare.{judgeOf};
+ghost use Prim.Native.Nat.{_-_};
+ghost use lib.ListN.{length};
+ghost use Rattle.scope_table.specs.Lent.{given, lentOf};
+ghost use Rattle.scope_change.specs.Change.{levelOf};
+ghost use Rattle.scope_change.specs.Asked.{CanAppend};
+ghost use Rattle.scope_declare.specs.Declare.{judgeOf, declareOf, addOf, popOf, limitedOf};
 
 // Where a prefix and a value stand in the caller's own bytes: what 12 to 15 hold.
 pub struct Places {
@@ -51,4 +62,191 @@ pub fn judge<'a>(declares: Declares, prefix: &'a [u8], value: &'a [u8], at: Plac
             Judged::Keep(NamespaceResult::InvalidPrefixForXmlns(at.prefix_start, at.prefix_end))
         }
     }
+}
+
+// A declaration, with no test of the form: what `add` does after it, and `push` for each attribute.
+pub fn declare_in<'a>(
+    text: &mut [u8],
+    records: &mut [usize],
+    head: Head,
+    room: Room,
+    declares: Declares,
+    prefix: &'a [u8],
+    value: &'a [u8],
+    at: Places,
+) -> Outcome
+    requires { ⌜ CanAppend (length (now text)) (length (now records)) head room ⌝ }
+    ensures { λ r. ⌜ given (r .answer) (now (text .exit)) (now (records .exit)) (r .head)
+        ≡ lentOf (declareOf room declares (now (prefix .entry)) (now (value .entry)) at) (now (text .entry)) (now (records .entry)) head ⌝ }
+{
+    let judged = judge(declares, prefix, value, at);
+    match judged {
+        Judged::Keep(answer) => Outcome {
+            answer: answer,
+            head: head,
+        },
+        Judged::Bind(n) => {
+            let bound = &prefix[..n];
+            scope_change::append_in(text, records, head, room, bound, value)
+        }
+    }
+}
+
+// `NamespaceResolver::add`, src/name.rs, on lent memory. The prefix is looked at only for a `Named` declaration.
+pub fn add_in<'a>(
+    text: &mut [u8],
+    records: &mut [usize],
+    head: Head,
+    declares: Declares,
+    prefix: &'a [u8],
+    value: &'a [u8],
+) -> Outcome
+    ensures { λ r. ⌜ given (r .answer) (now (text .exit)) (now (records .exit)) (r .head)
+        ≡ lentOf (addOf declares (now (prefix .entry)) (now (value .entry))) (now (text .entry)) (now (records .entry)) head ⌝ }
+{
+    let found = scope_table::form_in(text, records, head);
+    match found {
+        Form::Good => {}
+        Form::Bad => {
+            return Outcome {
+                answer: NamespaceResult::BadResolver,
+                head: head,
+            };
+        }
+        Form::WrongLength => {
+            return Outcome {
+                answer: NamespaceResult::WrongLength,
+                head: head,
+            };
+        }
+    }
+    let at = Places {
+        prefix_start: 0,
+        prefix_end: prefix.len(),
+        value_start: 0,
+        value_end: value.len(),
+    };
+    let room = Room {
+        records: NamespaceResolver::RECORDS,
+        bytes: NamespaceResolver::TEXT,
+    };
+    declare_in(text, records, head, room, declares, prefix, value, at)
+}
+
+// One level lower, and 0 below 0: `saturating_sub(1)` of the standard library.
+fn below(level: usize) -> usize
+    ensures { λ r. ⌜ r ≡ level - 1 ⌝ }
+{
+    if level == 0 {
+        return 0;
+    }
+    level - 1
+}
+
+// `NamespaceResolver::pop`, src/name.rs, on lent memory.
+pub fn pop_in(text: &mut [u8], records: &mut [usize], head: Head) -> Outcome
+    ensures { λ r. ⌜ given (r .answer) (now (text .exit)) (now (records .exit)) (r .head)
+        ≡ lentOf popOf (now (text .entry)) (now (records .entry)) head ⌝ }
+{
+    let found = scope_table::form_in(text, records, head);
+    let level = head.level;
+    match found {
+        Form::WrongLength => Outcome {
+            answer: NamespaceResult::WrongLength,
+            head: head,
+        },
+        Form::Bad => Outcome {
+            answer: NamespaceResult::BadResolver,
+            head: head,
+        },
+        Form::Good => scope_change::clear_above_in(text, records, head, below(level)),
+    }
+}
+
+// `NamespaceResolver::add`, src/name.rs.
+pub fn add<'a>(
+    r: NamespaceResolver,
+    declares: Declares,
+    prefix: &'a [u8],
+    value: &'a [u8],
+) -> Changed
+    ensures { λ c. ⌜ c ≡ addOf declares (now (prefix .entry)) (now (value .entry)) r ⌝ }
+{
+    let mut text = r.text;
+    let mut records = r.records;
+    let head = r.head;
+    let out = add_in(&mut text, &mut records, head, declares, prefix, value);
+    let answer = out.answer;
+    let left = out.head;
+    Changed {
+        answer: answer,
+        resolver: NamespaceResolver {
+            text: text,
+            records: records,
+            head: left,
+        },
+    }
+}
+
+// `NamespaceResolver::set_level`, src/name.rs.
+pub fn set_level(r: NamespaceResolver, to: u16) -> Changed
+    ensures { λ c. ⌜ c ≡ levelOf to r ⌝ }
+{
+    let mut text = r.text;
+    let mut records = r.records;
+    let head = r.head;
+    let out = scope_change::set_level_in(&mut text, &mut records, head, to);
+    let answer = out.answer;
+    let left = out.head;
+    Changed {
+        answer: answer,
+        resolver: NamespaceResolver {
+            text: text,
+            records: records,
+            head: left,
+        },
+    }
+}
+
+// `NamespaceResolver::pop`, src/name.rs.
+pub fn pop(r: NamespaceResolver) -> Changed
+    ensures { λ c. ⌜ c ≡ popOf r ⌝ }
+{
+    let mut text = r.text;
+    let mut records = r.records;
+    let head = r.head;
+    let out = pop_in(&mut text, &mut records, head);
+    let answer = out.answer;
+    let left = out.head;
+    Changed {
+        answer: answer,
+        resolver: NamespaceResolver {
+            text: text,
+            records: records,
+            head: left,
+        },
+    }
+}
+
+// `NamespaceResolver::level`, src/name.rs.
+pub fn level(r: NamespaceResolver) -> usize
+    ensures { λ n. ⌜ n ≡ r .head .level ⌝ }
+{
+    r.head.level
+}
+
+// `NamespaceResolver::max_namespace_bindings`, src/name.rs.
+pub fn max_namespace_bindings(r: NamespaceResolver) -> usize
+    ensures { λ n. ⌜ n ≡ r .head .limit ⌝ }
+{
+    r.head.limit
+}
+
+// `NamespaceResolver::set_max_namespace_bindings`, src/name.rs.
+pub fn set_max_namespace_bindings(r: NamespaceResolver, limit: usize) -> NamespaceResolver
+    ensures { λ x. ⌜ x ≡ limitedOf limit r ⌝ }
+{
+    let mut x = r;
+    x.head.limit = limit;
+    x
 }
