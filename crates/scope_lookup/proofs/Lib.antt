@@ -1,3 +1,4 @@
 pub mod Last
 pub mod Laws
+pub mod Padded
 pub mod Numbers

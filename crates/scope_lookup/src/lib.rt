@@ -8,15 +8,24 @@
 // A name that ends in `_in` takes lent memory, any other a resolver by value. Each of them tests the form of the resolver
 // first (refusal 20).
 
+use scope_table::Form;
+use scope_table::Head;
+use scope_table::NamespaceResolver;
+use scope_table::Told;
 ghost use mathlib.Core.Path.{_≡_};
+ghost use mathlib.Core.Bool.{true, false};
 ghost use Prim.Native.Nat.{_≤_, _<_};
+ghost use mathlib.Core.List.{[], _∷_};
 ghost use lib.ListN.{length, take};
 ghost use Rattle.name.specs.Split.{hasColon, prefixOf, localOf};
 ghost use Rattle.scope_table.specs.Records.{recordAt};
 ghost use Rattle.scope_table.specs.Table.{TEXT};
+ghost use Rattle.scope_table.specs.Answer.{toldOf};
+ghost use Rattle.scope_table.specs.Lent.{lent};
 ghost use Rattle.scope_lookup.specs.Last.{lastBelow};
 ghost use Rattle.scope_lookup.specs.Inside.{Inside};
-ghost use Rattle.scope_lookup.specs.Lookup.{hasPrefix, isDefault, valueOr, explicitOf, defaultOf, amongOf, uriPart, prefixPart, namespaceOf};
+ghost use Rattle.scope_lookup.specs.Lookup.{hasPrefix, isDefault, valueOr, explicitOf, defaultOf, amongOf, resolvePrefixOf, resolveOf, uriPart, prefixPart, namespaceOf, resolvedNumbers};
+ghost use Rattle.scope_lookup.specs.declared.Resolved.the-variants.{WrongLength};
 
 // What a name resolves to: `ResolveResult` of src/name.rs, refusal 20, and the answer of lent memory alone. The bounds of
 // `Bound` are in the resolver's text, those of `Unknown` in the name.
@@ -179,6 +188,80 @@ pub fn name_among<'t, 'n>(
     default(records, count, wanted)
 }
 
+// `NamespaceResolver::resolve_prefix`, src/name.rs, on lent memory: with `named`, a prefix that stands in a name, and else
+// none, whatever `prefix` holds.
+pub fn resolve_prefix_in<'t, 'n>(
+    text: &'t [u8],
+    records: &'t [usize],
+    head: Head,
+    prefix: &'n [u8],
+    named: bool,
+    wanted: bool,
+) -> Resolved
+    ensures { λ r. ⌜ r ≡ lent WrongLength (resolvePrefixOf (now (prefix .entry)) named wanted) (now (text .entry)) (now (records .entry)) head ⌝ }
+{
+    let form = scope_table::form_in(text, records, head);
+    match form {
+        Form::Good => {}
+        Form::Bad => return Resolved::BadResolver,
+        Form::WrongLength => return Resolved::WrongLength,
+    }
+    let count = head.count;
+    among(text, records, count, prefix, named, wanted)
+}
+
+// `NamespaceResolver::resolve`, src/name.rs, on lent memory.
+pub fn resolve_in<'t, 'n>(
+    text: &'t [u8],
+    records: &'t [usize],
+    head: Head,
+    name: &'n [u8],
+    wanted: bool,
+) -> Resolved
+    ensures { λ r. ⌜ r ≡ lent WrongLength (resolveOf (now (name .entry)) wanted) (now (text .entry)) (now (records .entry)) head ⌝ }
+{
+    let form = scope_table::form_in(text, records, head);
+    match form {
+        Form::Good => {}
+        Form::Bad => return Resolved::BadResolver,
+        Form::WrongLength => return Resolved::WrongLength,
+    }
+    let count = head.count;
+    name_among(text, records, count, name, wanted)
+}
+
+// `NamespaceResolver::resolve`, src/name.rs. What is handed back of the name is `local_part`.
+pub fn resolve(r: NamespaceResolver, name: &[u8], wanted: bool) -> Resolved
+    ensures { λ f. ⌜ f ≡ resolveOf (now (name .entry)) wanted r ⌝ }
+{
+    let head = r.head;
+    resolve_in(&r.text, &r.records, head, name, wanted)
+}
+
+// `NamespaceResolver::resolve_element`, src/name.rs.
+pub fn resolve_element(r: NamespaceResolver, name: &[u8]) -> Resolved
+    ensures { λ f. ⌜ f ≡ resolveOf (now (name .entry)) true r ⌝ }
+{
+    let head = r.head;
+    resolve_in(&r.text, &r.records, head, name, true)
+}
+
+// `NamespaceResolver::resolve_attribute`, src/name.rs.
+pub fn resolve_attribute(r: NamespaceResolver, name: &[u8]) -> Resolved
+    ensures { λ f. ⌜ f ≡ resolveOf (now (name .entry)) false r ⌝ }
+{
+    let head = r.head;
+    resolve_in(&r.text, &r.records, head, name, false)
+}
+
+// `NamespaceResolver::resolve_prefix`, src/name.rs.
+pub fn resolve_prefix(r: NamespaceResolver, prefix: &[u8], named: bool, wanted: bool) -> Resolved
+    ensures { λ f. ⌜ f ≡ resolvePrefixOf (now (prefix .entry)) named wanted r ⌝ }
+{
+    let head = r.head;
+    resolve_prefix_in(&r.text, &r.records, head, prefix, named, wanted)
+}
+
 // The URI that a lookup found: a part of the resolver's text.
 pub fn uri_part<'t, 'n>(text: &'t [u8], name: &'n [u8], found: Resolved) -> &'t [u8]
     ensures { λ r. ⌜ now r ≡ uriPart (now (text .entry)) found ⌝ }
@@ -216,5 +299,28 @@ pub fn namespace_of(found: Resolved) -> Namespace
         Resolved::Unknown(from, to) => Namespace::UnknownPrefix(from, to),
         Resolved::BadResolver => Namespace::BadResolver,
         Resolved::WrongLength => Namespace::WrongLength,
+    }
+}
+
+// The numbers of what a name resolves to, for a function that can hand out no enum.
+pub fn resolved_numbers(found: Resolved) -> Told
+    ensures { λ r. ⌜ r ≡ toldOf (resolvedNumbers found) ⌝ }
+{
+    match found {
+        Resolved::Bound(from, to) => tell(1, from, to),
+        Resolved::Unbound => tell(0, 0, 0),
+        Resolved::Unknown(from, to) => tell(2, from, to),
+        Resolved::BadResolver => tell(20, 0, 0),
+        Resolved::WrongLength => tell(99, 0, 0),
+    }
+}
+
+fn tell(number: usize, from: usize, to: usize) -> Told
+    ensures { λ r. ⌜ r ≡ toldOf (number ∷ from ∷ to ∷ []) ⌝ }
+{
+    Told {
+        number: number,
+        first: from,
+        second: to,
     }
 }
