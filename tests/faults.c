@@ -1,8 +1,9 @@
 /* A wrapper for each export of the library, to be linked before it: `mz_F` passes its call on to `true_mz_F`, as which the
- * library's own is renamed. On one call that the environment names, something comes back wrong:
+ * library's own is renamed. On one call that the environment names something comes back wrong:
  *
  *   WRONG=mz_F AT=N WHAT=answer    the Nth answer of mz_F has its lowest bit turned
- *                   WHAT=first     what its first argument points to has: its first byte
+ *                   WHAT=first     what its first argument points to has, in its first byte; where the second argument
+ *                                  is 0, and so may be the length of nothing, a later call's
  *                   WHAT=third     the same of its third
  *   COUNT=1                        at the end standard error gets how often each was called
  *
@@ -13,11 +14,11 @@
 #include <string.h>
 
 struct fault {
-    long calls, at;
+    long calls, at; /* at 0 nothing is wrong */
     const char *name;
 };
 
-__attribute__((used)) void *back_to, *first, *third, **pointed;
+__attribute__((used)) void *back_to, *first, *second, *third, **pointed;
 
 #define EXPORT(function) __attribute__((used)) struct fault fault_##function = {0, 0, #function};
 #include "exports.h"
@@ -26,22 +27,28 @@ __attribute__((used)) void *back_to, *first, *third, **pointed;
 __asm__(".text\n"
         "answered:\n" /* rcx has the fault */
         " incq (%rcx)\n"
+        " cmpq $0, 8(%rcx)\n"
+        " je 3f\n"
         " movq (%rcx), %rdx\n"
         " cmpq 8(%rcx), %rdx\n"
-        " jne 2f\n"
+        " jl 3f\n"
         " movq pointed(%rip), %rdx\n"
         " testq %rdx, %rdx\n"
         " jz 1f\n"
+        " cmpq $0, second(%rip)\n"
+        " je 3f\n"
         " movq (%rdx), %rdx\n"
         " xorb $1, (%rdx)\n"
-        " ret\n"
+        " jmp 2f\n"
         "1: xorq $1, %rax\n"
-        "2: ret\n");
+        "2: movq $0, 8(%rcx)\n"
+        "3: ret\n");
 
 #define EXPORT(function)                                       \
     __asm__(".globl " #function "\n" #function ":\n"           \
             " popq back_to(%rip)\n"                            \
             " movq %rdi, first(%rip)\n"                        \
+            " movq %rsi, second(%rip)\n"                       \
             " movq %rdx, third(%rip)\n"                        \
             " call true_" #function "\n"                       \
             " pushq back_to(%rip)\n"                           \
