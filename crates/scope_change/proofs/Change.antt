@@ -29,7 +29,7 @@ use Rattle.scope_table.proofs.Pad.{pad-records, pad-over, pad-cut, holds-within
 use Rattle.scope_table.proofs.Good.{Ready}
 use Rattle.scope_table.proofs.Calls.{unchanged, changes, lends-more}
 use Rattle.scope_change.specs.Change.{boundOf, refusalOf, appendOf, lentRefusalOf, keptAt, endOf, keptOf, droppedOf, levelOf}
-use Rattle.scope_change.specs.Asked.{CanAppend}
+use Rattle.scope_change.specs.Asked.{HoldsBinding, CanAppend}
 use Rattle.scope_change.specs.declared.Room.{Room}
 
 -- Room for a binding.
@@ -57,7 +57,7 @@ module _ (bytes numbers : ℕ) (room : Room) (head : Head) (size : ℕ) where
   unfolding lentRefusalOf
   lent-has e = lent-by (isDone (refusalOf room head size)) (fitsOf bytes numbers (head .used + size) (head .count + 1)) (refusalOf room head size) e (λ f. f)
 
-  pub lent-holds : CanAppend bytes numbers head room → isDone (lentRefusalOf bytes numbers room head size) ≡ true → (head .used + size ≤ bytes) × (rowAt (head .count + 1) ≤ numbers)
+  pub lent-holds : CanAppend bytes numbers head room → isDone (lentRefusalOf bytes numbers room head size) ≡ true → HoldsBinding bytes numbers head size
   unfolding fitsOf
   lent-holds w e =
       let h = lent-has e in
@@ -65,7 +65,7 @@ module _ (bytes numbers : ℕ) (room : Room) (head : Head) (size : ℕ) where
       let b = holds-within TEXT bytes (head .used + size) (omega (arith, w .few-bytes, r .1)) (and-left (holdsOf TEXT bytes (head .used + size)) _ (h .1)) in
       let m : rowAt (head .count + 1) ≤ NUMBERS = omega (arith, w .few-records, r .0) in
       let n = holds-within NUMBERS numbers (rowAt (head .count + 1)) m (and-right (holdsOf TEXT bytes (head .used + size)) _ (h .1)) in
-      (b .1, n .1)
+      record { text = b .1; row = n .1 }
 
   -- the three ways in which the answer is found
   pub lent-refused : (a : NamespaceResult) → a ≡ refusalOf room head size → isDone a ≡ false → a ≡ lentRefusalOf bytes numbers room head size
@@ -109,15 +109,16 @@ module _ (text records : List ℕ) (head : Head) (room : Room) (w : CanAppend (l
     by true true q h = absurd (false≢true (sym n ∙ ap isDone e ∙ rw (q, h)))
 
   -- and where it does
-  pub append-done : Done ≡ lentRefusalOf (length text) (length records) room head size → given Done (over text (head .used) (p ++ v)) (over records (rowAt (head .count)) (rowOf (bindingOf (head .used) (length p) (length v) (head .level)))) (headOf (head .used + size) (head .count + 1) (head .level) (head .limit)) ≡ lentOf (appendOf room p v) text records head
+  pub append-done : Done ≡ lentRefusalOf (length text) (length records) room head size → (t r : List ℕ) (h : Head) → resolverOf t r h ≡ boundOf p v (resolverOf text records head) → given Done t r h ≡ lentOf (appendOf room p v) text records head
   unfolding appendOf boundOf
-  append-done e =
+  append-done e t r h b =
       let d = lent-has (length text) (length records) room head size (ap isDone (sym e)) in
-      let h = lent-holds (length text) (length records) room head size w (ap isDone (sym e)) in
-      let n : head .used + length (p ++ v) ≤ length text = omega (arith, length-append p v, h .0) in
-      changes text records head (w .fit) (appendOf room p v) Done (boundOf p v (standsFor text records head)) _ _ (rw (d .0)) (d .1)
+      let l = lent-holds (length text) (length records) room head size w (ap isDone (sym e)) in
+      let n : head .used + length (p ++ v) ≤ length text = omega (arith, length-append p v, l .text) in
+      ap (λ (x : NamespaceResolver). given Done (x .text) (x .records) (x .head)) b
+      ∙ changes text records head (w .fit) (appendOf room p v) Done (boundOf p v (standsFor text records head)) _ _ (rw (d .0)) (d .1)
       (pad-over TEXT text (head .used) (p ++ v) n)
-      (pad-over NUMBERS records (rowAt (head .count)) (rowOf (bindingOf (head .used) (length p) (length v) (head .level))) (omega (arith, h .1)))
+      (pad-over NUMBERS records (rowAt (head .count)) (rowOf (bindingOf (head .used) (length p) (length v) (head .level))) (omega (arith, l .row)))
 
 -- The records that are kept: one turn.
 module _ (rows : ℕ → NamespaceBinding) (v : ℕ) where

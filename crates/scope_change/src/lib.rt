@@ -7,11 +7,11 @@ ghost use Prim.Native.Nat.{_+_, _-_, _≤_};
 ghost use lib.ListN.{length};
 ghost use Rattle.scope_table.specs.Lists.{cut};
 ghost use Rattle.scope_table.specs.Records.{rowAt, recordAt};
-ghost use Rattle.scope_table.specs.Table.{RECORDS};
+ghost use Rattle.scope_table.specs.Table.{RECORDS, resolverOf};
 ghost use Rattle.scope_table.specs.Lent.{given, lentOf, formOf};
 ghost use Rattle.scope_table.specs.declared.Form.the-variants.{Good};
-ghost use Rattle.scope_change.specs.Change.{refusalOf, lentRefusalOf, appendOf, keptAt, endOf, levelOf};
-ghost use Rattle.scope_change.specs.Asked.{CanAppend};
+ghost use Rattle.scope_change.specs.Change.{boundOf, refusalOf, lentRefusalOf, appendOf, keptAt, endOf, levelOf};
+ghost use Rattle.scope_change.specs.Asked.{HoldsBinding, CanAppend};
 use scope_table::Form;
 use scope_table::Head;
 use scope_table::NamespaceBinding;
@@ -89,23 +89,21 @@ fn lent_refusal(
     NamespaceResult::LendMore
 }
 
-// One binding more, where there is room for it and what is lent holds it: what `NamespaceResolver::add`, src/name.rs, does
-// with a binding that it takes.
+// A binding is written: its text after the text in use, its record after the records in use.
 //
 //     text    .. v 0 0 0 0 0        .. v p p u u 0
 //                  |         ->          |   |   |
 //                  used                used  value, then the text in use
-pub fn append_in<'p>(
+fn write_binding<'p>(
     text: &mut [u8],
     records: &mut [usize],
     head: Head,
-    room: Room,
     prefix: &'p [u8],
     value: &'p [u8],
-) -> Outcome
-    requires { ⌜ CanAppend (length (now text)) (length (now records)) head room ⌝ }
-    ensures { λ r. ⌜ given (r .answer) (now (text .exit)) (now (records .exit)) (r .head)
-        ≡ lentOf (appendOf room (now (prefix .entry)) (now (value .entry))) (now (text .entry)) (now (records .entry)) head ⌝ }
+) -> Head
+    requires { ⌜ HoldsBinding (length (now text)) (length (now records)) head (length (now prefix) + length (now value)) ⌝ }
+    ensures { λ r. ⌜ resolverOf (now (text .exit)) (now (records .exit)) r
+        ≡ boundOf (now (prefix .entry)) (now (value .entry)) (resolverOf (now (text .entry)) (now (records .entry)) head) ⌝ }
 {
     let used = head.used;
     let count = head.count;
@@ -113,13 +111,6 @@ pub fn append_in<'p>(
     let limit = head.limit;
     let prefix_len = prefix.len();
     let value_len = value.len();
-    let answer = lent_refusal(text.len(), records.len(), room, head, prefix_len, value_len);
-    let NamespaceResult::Done = answer else {
-        return Outcome {
-            answer: answer,
-            head: head,
-        };
-    };
     let middle = used + prefix_len;
     let size = prefix_len + value_len;
     let end = used + size;
@@ -133,14 +124,41 @@ pub fn append_in<'p>(
         level: level,
     };
     scope_table::write_record(records, count, written);
+    Head {
+        used: end,
+        count: next,
+        level: level,
+        limit: limit,
+    }
+}
+
+// One binding more, where there is room for it and what is lent holds it: what `NamespaceResolver::add`, src/name.rs, does
+// with a binding that it takes.
+pub fn append_in<'p>(
+    text: &mut [u8],
+    records: &mut [usize],
+    head: Head,
+    room: Room,
+    prefix: &'p [u8],
+    value: &'p [u8],
+) -> Outcome
+    requires { ⌜ CanAppend (length (now text)) (length (now records)) head room ⌝ }
+    ensures { λ r. ⌜ given (r .answer) (now (text .exit)) (now (records .exit)) (r .head)
+        ≡ lentOf (appendOf room (now (prefix .entry)) (now (value .entry))) (now (text .entry)) (now (records .entry)) head ⌝ }
+{
+    let prefix_len = prefix.len();
+    let value_len = value.len();
+    let answer = lent_refusal(text.len(), records.len(), room, head, prefix_len, value_len);
+    let NamespaceResult::Done = answer else {
+        return Outcome {
+            answer: answer,
+            head: head,
+        };
+    };
+    let after = write_binding(text, records, head, prefix, value);
     Outcome {
         answer: NamespaceResult::Done,
-        head: Head {
-            used: end,
-            count: next,
-            level: level,
-            limit: limit,
-        },
+        head: after,
     }
 }
 

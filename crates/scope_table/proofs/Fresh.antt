@@ -1,22 +1,23 @@
 -- The fresh resolver in lent memory: zeros, with the built-ins written over their beginning.
 use Prim.Native.Nat.{ℕ, zero, suc, _+_, _-_, _≤_, _<_}
 use mathlib.Core.Path.{_≡_, refl, sym, ap, _∙_}
-use mathlib.Core.Bool.{true, false, _&&_}
+use mathlib.Core.Bool.{Bool, true, false, _&&_}
 use mathlib.Core.List.{List, [], _∷_, _++_}
 use native.Mathlib.Omega.{arith}
 use lib.Dec.{leb}
 use lib.ListN.{length, take, drop, replicate, length-append, length-replicate, replicate-append-replicate}
 use lib.Seq.{take-at, take-all, take-append-add}
-use borrow.Author.Tests.{le-leb, lt-leb}
+use borrow.Author.Tests.{leb-true, le-leb}
 use Rattle.scan.specs.Bytes.{bytes, bytesFrom}
 use Rattle.scan.specs.Lists.{over}
 use Rattle.scope_table.specs.Lists.{cut}
 use Rattle.scope_table.specs.Records.{ROW, rowAt}
 use Rattle.scope_table.specs.Table.{TEXT, NUMBERS, LIMIT, builtIn, builtInRows, headOf, resolverOf, freshOf}
+use Rattle.scope_table.specs.Answer.{changed}
 use Rattle.scope_table.specs.Lent.{holdsOf, fitsOf, given, heldOf, freshIn}
 use Rattle.scope_table.specs.declared.Head.{Head}
 use Rattle.scope_table.specs.declared.NamespaceResult.the-variants.{Done, LendMore, WrongLength}
-use Rattle.scope_table.proofs.Lists.{and-left, and-right, and-take, and-fail}
+use Rattle.scope_table.proofs.Lists.{and-left, and-right, and-take}
 use Rattle.scope_table.proofs.Pad.{holds-within}
 use Rattle.scope_table.proofs.Full.{fits-full}
 
@@ -68,18 +69,17 @@ fresh-is = refl
 
 -- The ways in which the call ends.
 module _ (text records : List ℕ) (head : Head) where
-  pub fresh-long : TEXT < length text → given WrongLength text records head ≡ freshIn text records head
-  unfolding freshIn
-  fresh-long h = rw (and-fail (leb (length records) NUMBERS) (lt-leb (length text) TEXT h))
+  abbrev Within-capacity : Bool → Type 0
+  Within-capacity t = (leb (length text) TEXT && leb (length records) NUMBERS) ≡ t
 
-  pub fresh-wide : length text ≤ TEXT → NUMBERS < length records → given WrongLength text records head ≡ freshIn text records head
+  pub fresh-wrong : Within-capacity false → given WrongLength text records head ≡ freshIn text records head
   unfolding freshIn
-  fresh-wide h k = rw (and-take (le-leb (length text) TEXT h) (lt-leb (length records) NUMBERS k))
+  fresh-wrong w = rw w
 
-  module _ (h : length text ≤ TEXT) (k : length records ≤ NUMBERS) where
-    fresh-held : freshIn text records head ≡ heldOf text records head (record { answer = Done; resolver = freshOf })
+  module _ (w : Within-capacity true) where
+    fresh-held : freshIn text records head ≡ heldOf text records head (changed Done freshOf)
     unfolding freshIn
-    fresh-held = rw (and-take (le-leb (length text) TEXT h) (le-leb (length records) NUMBERS k))
+    fresh-held = rw w
 
     pub fresh-more : fitsOf (length text) (length records) 73 2 ≡ false → given LendMore text records head ≡ freshIn text records head
     unfolding heldOf
@@ -97,6 +97,8 @@ module _ (text records : List ℕ) (head : Head) where
     fresh-done f =
         let l = fresh-lent f in
         let b = built-in-length in
+        let h : length text ≤ TEXT = leb-true (length text) TEXT (and-left (leb (length text) TEXT) _ w) in
+        let k : length records ≤ NUMBERS = leb-true (length records) NUMBERS (and-right (leb (length text) TEXT) _ w) in
         let t = over-zeros text builtIn ∙ sym (take-fresh (length text) (TEXT - 73) builtIn (omega (arith, b, l .0)) (omega (arith, b, h))) in
         let r = over-zeros records builtInRows ∙ sym (take-fresh (length records) (NUMBERS - rowAt 2) builtInRows (omega (arith, l .1)) (omega (arith, k))) in
         sym (fresh-held ∙ rw (fresh-is, f, t, r))
@@ -108,5 +110,5 @@ fresh-full text records head t r =
     let b = built-in-length in
     let p : length (builtIn ++ zeros (TEXT - 73)) ≤ length text = omega (arith, t, b, length-append builtIn (zeros (TEXT - 73)), length-replicate {A = ℕ} (TEXT - 73) 0) in
     let q : length (builtInRows ++ zeros (NUMBERS - rowAt 2)) ≤ length records = omega (arith, r, length-append builtInRows (zeros (NUMBERS - rowAt 2)), length-replicate {A = ℕ} (NUMBERS - rowAt 2) 0) in
-    fresh-held text records head (omega arith) (omega arith)
+    fresh-held text records head (and-take (le-leb (length text) TEXT (omega arith)) (le-leb (length records) NUMBERS (omega arith)))
     ∙ rw (fresh-is, fits-full (length text) (length records) 73 2 t r, take-all (length text) (builtIn ++ zeros (TEXT - 73)) p, take-all (length records) (builtInRows ++ zeros (NUMBERS - rowAt 2)) q)

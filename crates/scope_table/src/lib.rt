@@ -15,7 +15,8 @@
 // unused and zero, so that a call costs what is lent and no more.
 
 ghost use mathlib.Core.Path.{_≡_};
-ghost use mathlib.Core.Bool.{true};
+ghost use mathlib.Core.Bool.{true, _&&_};
+ghost use lib.Dec.{leb};
 ghost use Prim.Native.Nat.{_+_, _≤_};
 ghost use mathlib.Core.List.{[], _∷_};
 ghost use lib.ListN.{length, take, drop};
@@ -23,7 +24,7 @@ ghost use Rattle.scan.specs.Bytes.{sameBytes};
 ghost use Rattle.scan.specs.Lists.{over};
 ghost use Rattle.scope_table.specs.Lists.{allZero, cut};
 ghost use Rattle.scope_table.specs.Records.{rowAt, recordAt, rowOf, valueStart, valueEnd, prefixIn, valueIn};
-ghost use Rattle.scope_table.specs.Table.{builtIn, builtInRows, isRecord, opensBuiltIn, isChain, isRising, isWithin, isTable, validOf, freshOf};
+ghost use Rattle.scope_table.specs.Table.{TEXT, NUMBERS, builtIn, builtInRows, isRecord, opensBuiltIn, isChain, isRising, isWithin, isTable, validOf, freshOf};
 ghost use Rattle.scope_table.specs.Answer.{changeNumbers, toldOf};
 ghost use Rattle.scope_table.specs.Lent.{holdsOf, fitsOf, given, freshIn, formOf};
 
@@ -500,6 +501,16 @@ pub fn form_in<'a>(text: &'a [u8], records: &'a [usize], head: Head) -> Form
     Form::Good
 }
 
+// Whether no more is lent than the capacity.
+fn within_capacity(bytes: usize, numbers: usize) -> bool
+    ensures { λ r. ⌜ r ≡ (leb bytes TEXT && leb numbers NUMBERS) ⌝ }
+{
+    if NamespaceResolver::TEXT < bytes {
+        return false;
+    }
+    numbers <= NamespaceResolver::NUMBERS
+}
+
 // Whatever the lent memory held: the fresh resolver stands there then. `head` comes back where nothing is written.
 pub fn fresh_in(text: &mut [u8], records: &mut [usize], head: Head) -> Outcome
     ensures { λ r. ⌜ given (r .answer) (now (text .exit)) (now (records .exit)) (r .head)
@@ -507,13 +518,7 @@ pub fn fresh_in(text: &mut [u8], records: &mut [usize], head: Head) -> Outcome
 {
     let bytes = text.len();
     let numbers = records.len();
-    if NamespaceResolver::TEXT < bytes {
-        return Outcome {
-            answer: NamespaceResult::WrongLength,
-            head: head,
-        };
-    }
-    if NamespaceResolver::NUMBERS < numbers {
+    if !within_capacity(bytes, numbers) {
         return Outcome {
             answer: NamespaceResult::WrongLength,
             head: head,
