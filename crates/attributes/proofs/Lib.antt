@@ -7,3 +7,5 @@ pub mod Good
 pub mod Run
 pub mod Numbers
 pub mod Unchecked
+pub mod Taken
+pub mod Lent

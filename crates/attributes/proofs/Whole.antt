@@ -29,7 +29,7 @@ use Rattle.attributes.specs.declared.Found.{Found}
 use Rattle.attributes.specs.declared.Outcome.{Outcome}
 use Rattle.attributes.specs.declared.IterState.{IterState}
 use Rattle.attributes.specs.Read.{found, isAt, skipTo, skipOf, recoverOf, keyEq, keyTo, keyFrom, keyAt, valueAt}
-use Rattle.attributes.specs.Next.{Keys, Reading, Ready, reading, lent, made, checkOf, keptBy, placeAt, bareBy, bareTo, bareOf, valuedBy, valuedTo, valuedOf, readKey, readAt, stepFrom, stepOf, placeGood, keysOf, lentState, stateGood, noKeys, badReading, leaves, nextOf, roomFor, lentGood, cleared, nextIn}
+use Rattle.attributes.specs.Next.{Keys, Reading, Ready, reading, lent, made, checkOf, keptBy, placeAt, bareBy, bareTo, bareOf, valuedBy, valuedTo, valuedOf, readKey, readAt, stepFrom, stepOf, placeGood, goodOf, keysOf, lentState, stateGood, noKeys, badReading, leaves, nextOf, roomFor, lentGood, cleared, nextIn}
 
 abbrev outcome : Answer → Place → ℕ → Outcome
 outcome a p n = record { answer = a; place = p; count = n }
@@ -95,30 +95,33 @@ module _ (s : List ℕ) (html checks : Bool) (keys : Keys) (place : Place) where
 
 -- `next` on lent tables
 
--- what is good: a law for each `return` of `state_good`
-module _ (s : List ℕ) (checks : Bool) (starts ends : List ℕ) (count : ℕ) (place : Place) where
-  pub good-keys : tableGood (length s) starts ends count ≡ false → false ≡ lentGood s checks (lent starts ends count) place
-  unfolding lentGood
+-- what is good: a law for each `return` of `good_in`
+module _ (s starts ends : List ℕ) (count : ℕ) (place : Place) where
+  pub good-keys : tableGood (length s) starts ends count ≡ false → false ≡ goodOf s (lent starts ends count) place
   good-keys k = rw k
 
-  module _ (k : tableGood (length s) starts ends count ≡ true) where
-    pub good-place : placeGood s place ≡ false → false ≡ lentGood s checks (lent starts ends count) place
-    unfolding lentGood
-    good-place p = rw (k, p)
+  pub good-place : tableGood (length s) starts ends count ≡ true → placeGood s place ≡ goodOf s (lent starts ends count) place
+  good-place k = rw k
 
-    module _ (p : placeGood s place ≡ true) where
-      pub good-off : checks ≡ false → true ≡ lentGood s checks (lent starts ends count) place
+-- and of `state_good`
+module _ (s : List ℕ) (checks : Bool) (starts ends : List ℕ) (count : ℕ) (place : Place) where
+  pub good-not : goodOf s (lent starts ends count) place ≡ false → false ≡ lentGood s checks (lent starts ends count) place
+  unfolding lentGood
+  good-not g = rw g
+
+  module _ (g : goodOf s (lent starts ends count) place ≡ true) where
+    pub good-off : checks ≡ false → true ≡ lentGood s checks (lent starts ends count) place
+    unfolding lentGood roomFor
+    good-off off = rw (g, off)
+
+    module _ (on : checks ≡ true) where
+      pub good-starts : length starts < capacity → false ≡ lentGood s checks (lent starts ends count) place
       unfolding lentGood roomFor
-      good-off off = rw (k, p, off)
+      good-starts h = rw (g, on, lt-leb capacity (length starts) h)
 
-      module _ (on : checks ≡ true) where
-        pub good-starts : length starts < capacity → false ≡ lentGood s checks (lent starts ends count) place
-        unfolding lentGood roomFor
-        good-starts h = rw (k, p, on, lt-leb capacity (length starts) h)
-
-        pub good-ends : capacity ≤ length starts → leb capacity (length ends) ≡ lentGood s checks (lent starts ends count) place
-        unfolding lentGood roomFor
-        good-ends h = rw (k, p, on, le-leb capacity (length starts) h)
+      pub good-ends : capacity ≤ length starts → leb capacity (length ends) ≡ lentGood s checks (lent starts ends count) place
+      unfolding lentGood roomFor
+      good-ends h = rw (g, on, le-leb capacity (length starts) h)
 
 room-in : (checks : Bool) (keys : Keys) → roomFor checks keys ≡ true → Room checks (keys .starts) (keys .ends)
 unfolding roomFor

@@ -3,3 +3,4 @@ pub mod Next
 pub mod Run
 pub mod Look
 pub mod Numbers
+pub mod Lent

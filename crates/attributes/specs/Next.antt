@@ -135,10 +135,18 @@ unfoldable pub keysOf : IterState → Keys
 keysOf st = lent (st .starts) (st .ends) (st .count)
 
 -- There are at most 256 keys, each not empty and inside the tag, and the place is good: whatever the checks say.
-unfoldable pub stateGood : List ℕ → IterState → Bool
-stateGood s st = tableGood (length s) (st .starts) (st .ends) (st .count) && placeGood s (st .place)
+abbrev pub goodOf : List ℕ → Keys → Place → Bool
+goodOf s keys place = tableGood (length s) (keys .starts) (keys .ends) (keys .count) && placeGood s place
 
--- A step on lent tables asks for what a good state has, and for room while checks are on.
+unfoldable pub stateGood : List ℕ → IterState → Bool
+stateGood s st = goodOf s (lent (st .starts) (st .ends) (st .count)) (st .place)
+
+-- A step on lent tables asks for what a good state has.
+pub record Stands (s : List ℕ) (keys : Keys) (place : Place) : Type 0 where
+  pub inside : KeysIn (keys .starts) (keys .ends) (keys .count) (length s)
+  pub stands : placeGood s place ≡ true
+
+-- and on tables of full size for room while checks are on
 pub record Ready (s : List ℕ) (checks : Bool) (keys : Keys) (place : Place) : Type 0 where
   pub inside : KeysIn (keys .starts) (keys .ends) (keys .count) (length s)
   pub room : Room checks (keys .starts) (keys .ends)

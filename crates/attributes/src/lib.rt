@@ -12,8 +12,9 @@ ghost use mathlib.Core.Bool.{true};
 ghost use Prim.Native.Nat.{_+_, _^_, _<_, _≤_};
 ghost use lib.ListN.{length, replicate};
 ghost use Rattle.attributes.specs.Read.{isQuote, skipOf, skipEqValueOf, recoverOf, keyAt, closedOf, quotedOf, valueAt};
-ghost use Rattle.attributes.specs.Next.{Ready, lent, made, placeAt, placeGood, bareOf, valuedOf, stepOf, lentGood, nextIn, nextOf, uncheckedOf, opened, withChecks};
-ghost use Rattle.keys.specs.Keys.{KeysIn, Room};
+ghost use Rattle.attributes.specs.Next.{Stands, Ready, lent, made, placeAt, placeGood, goodOf, stepOf, lentGood, nextIn, nextOf, uncheckedOf, opened, withChecks};
+ghost use Rattle.attributes.specs.Lent.{taken, bareIn, valuedIn, stepIn};
+ghost use Rattle.keys.specs.Keys.{KeysIn};
 use keys::CAPACITY;
 use keys::Checked;
 
@@ -105,6 +106,14 @@ pub struct Outcome {
     pub answer: Answer,
     pub place: Place,
     pub count: usize,
+}
+
+// What a step on tables of any length gives.
+pub enum Stepped {
+    Made(Outcome),
+    // The next key is due to be recorded, and no place is lent for it: nothing is changed. The caller lends longer tables,
+    // with the recorded keys in their places, and goes on.
+    LendMore,
 }
 
 // Whether a byte opens a quoted value.
@@ -316,6 +325,22 @@ fn place_good(tag: &[u8], place: Place) -> bool
 }
 
 // Whether lent tables and a place are what reading this tag leaves; refusal 7 is for the others.
+pub fn good_in<'a>(
+    tag: &[u8],
+    starts: &'a [usize],
+    ends: &'a [usize],
+    count: usize,
+    place: Place,
+) -> bool
+    ensures { λ r. ⌜ r ≡ goodOf (now (tag .entry)) (lent (now (starts .entry)) (now (ends .entry)) count) place ⌝ }
+{
+    if !keys::keys_good(tag.len(), starts, ends, count) {
+        return false;
+    }
+    place_good(tag, place)
+}
+
+// The same of tables that have to be of full size while checks are on.
 pub fn state_good<'a>(
     tag: &[u8],
     starts: &'a [usize],
@@ -326,10 +351,7 @@ pub fn state_good<'a>(
 ) -> bool
     ensures { λ r. ⌜ r ≡ lentGood (now (tag .entry)) checks (lent (now (starts .entry)) (now (ends .entry)) count) place ⌝ }
 {
-    if !keys::keys_good(tag.len(), starts, ends, count) {
-        return false;
-    }
-    if !place_good(tag, place) {
+    if !good_in(tag, starts, ends, count, place) {
         return false;
     }
     if !checks {
@@ -355,36 +377,41 @@ fn key_only<'a>(
     count: usize,
     key: Span,
     offset: usize,
-) -> Outcome
+) -> Stepped
     requires { ⌜ KeysIn (now starts) (now ends) count (length (now tag)) ⌝ }
-    requires { ⌜ Room checks (now starts) (now ends) ⌝ }
     requires { ⌜ (key .start < key .end) × (key .end ≤ length (now tag)) ⌝ }
-    ensures { λ r. ⌜ made r (now (starts .exit)) (now (ends .exit)) ≡ bareOf (now (tag .entry)) html checks (lent (now (starts .entry)) (now (ends .entry)) count) key offset ⌝ }
+    ensures { λ r. ⌜ taken r (now (starts .exit)) (now (ends .exit)) count ≡ bareIn (now (tag .entry)) html checks (lent (now (starts .entry)) (now (ends .entry)) count) key offset ⌝ }
 {
     let place = place_at(tag, offset);
     if !html {
-        return Outcome {
+        return Stepped::Made(Outcome {
             answer: Answer::ExpectedEq(offset),
             place: place,
             count: count,
-        };
+        });
     }
     match keys::check_for_duplicates(tag, starts, ends, checks, count, key.start, key.end) {
-        Checked::Fresh(more) => Outcome {
-            answer: Answer::Empty(key),
-            place: place,
-            count: more,
-        },
-        Checked::Same(earlier) => Outcome {
+        Checked::Fresh(more) => {
+            if !keys::holds(starts, ends, more) {
+                return Stepped::LendMore;
+            }
+            keys::record_key(starts, ends, checks, count, key.start, key.end);
+            Stepped::Made(Outcome {
+                answer: Answer::Empty(key),
+                place: place,
+                count: more,
+            })
+        }
+        Checked::Same(earlier) => Stepped::Made(Outcome {
             answer: Answer::Duplicated(key.start, earlier),
             place: place,
             count: count,
-        },
-        Checked::Full => Outcome {
+        }),
+        Checked::Full => Stepped::Made(Outcome {
             answer: Answer::KeyTableFull(key.start),
             place: Place::Done,
             count: count,
-        },
+        }),
     }
 }
 
@@ -398,39 +425,73 @@ fn key_valued<'a>(
     count: usize,
     key: Span,
     eq: usize,
-) -> Outcome
+) -> Stepped
     requires { ⌜ KeysIn (now starts) (now ends) count (length (now tag)) ⌝ }
-    requires { ⌜ Room checks (now starts) (now ends) ⌝ }
     requires { ⌜ (key .start < key .end) × (key .end ≤ length (now tag)) ⌝ }
     requires { ⌜ eq < length (now tag) ⌝ }
-    ensures { λ r. ⌜ made r (now (starts .exit)) (now (ends .exit)) ≡ valuedOf (now (tag .entry)) html checks (lent (now (starts .entry)) (now (ends .entry)) count) key eq ⌝ }
+    ensures { λ r. ⌜ taken r (now (starts .exit)) (now (ends .exit)) count ≡ valuedIn (now (tag .entry)) html checks (lent (now (starts .entry)) (now (ends .entry)) count) key eq ⌝ }
 {
     match keys::check_for_duplicates(tag, starts, ends, checks, count, key.start, key.end) {
         Checked::Fresh(more) => {
+            if !keys::holds(starts, ends, more) {
+                return Stepped::LendMore;
+            }
+            keys::record_key(starts, ends, checks, count, key.start, key.end);
             let value = read_value(tag, html, key, eq);
             let answer = value.answer;
             let place = value.place;
-            Outcome {
+            Stepped::Made(Outcome {
                 answer: answer,
                 place: place,
                 count: more,
-            }
+            })
         }
-        Checked::Same(earlier) => Outcome {
+        Checked::Same(earlier) => Stepped::Made(Outcome {
             answer: Answer::Duplicated(key.start, earlier),
             place: Place::SkipEqValue(eq),
             count: count,
-        },
-        Checked::Full => Outcome {
+        }),
+        Checked::Full => Stepped::Made(Outcome {
             answer: Answer::KeyTableFull(key.start),
             place: Place::Done,
             count: count,
-        },
+        }),
     }
 }
 
-// One step on lent tables, of a state that is good: `IterState::next`. Nothing is copied, so whoever reads a whole tag
-// tests the state once and calls this.
+// One step on lent tables of any length, of a state that is good: `IterState::next`. Nothing is copied, so whoever reads a
+// whole tag tests the state once and calls this.
+pub fn step_in<'a>(
+    tag: &[u8],
+    starts: &'a mut [usize],
+    ends: &'a mut [usize],
+    html: bool,
+    checks: bool,
+    count: usize,
+    place: Place,
+) -> Stepped
+    requires { ⌜ Stands (now tag) (lent (now starts) (now ends) count) place ⌝ }
+    ensures { λ r. ⌜ taken r (now (starts .exit)) (now (ends .exit)) count ≡ stepIn (now (tag .entry)) html checks (lent (now (starts .entry)) (now (ends .entry)) count) place ⌝ }
+{
+    let Start::From(from) = recover(tag, place) else {
+        return Stepped::Made(Outcome {
+            answer: Answer::End,
+            place: place,
+            count: count,
+        });
+    };
+    match read_key(tag, from) {
+        KeyRead::NoKey => Stepped::Made(Outcome {
+            answer: Answer::End,
+            place: Place::Done,
+            count: count,
+        }),
+        KeyRead::Bare(key, at) => key_only(tag, starts, ends, html, checks, count, key, at),
+        KeyRead::Valued(key, eq) => key_valued(tag, starts, ends, html, checks, count, key, eq),
+    }
+}
+
+// The same on tables with room for every key, which never lack a place.
 pub fn step_lent<'a>(
     tag: &[u8],
     starts: &'a mut [usize],
@@ -443,21 +504,14 @@ pub fn step_lent<'a>(
     requires { ⌜ Ready (now tag) checks (lent (now starts) (now ends) count) place ⌝ }
     ensures { λ r. ⌜ made r (now (starts .exit)) (now (ends .exit)) ≡ stepOf (now (tag .entry)) html checks (lent (now (starts .entry)) (now (ends .entry)) count) place ⌝ }
 {
-    let Start::From(from) = recover(tag, place) else {
-        return Outcome {
-            answer: Answer::End,
+    let step = step_in(tag, starts, ends, html, checks, count, place);
+    match step {
+        Stepped::Made(made) => made,
+        Stepped::LendMore => Outcome {
+            answer: Answer::BadState,
             place: place,
             count: count,
-        };
-    };
-    match read_key(tag, from) {
-        KeyRead::NoKey => Outcome {
-            answer: Answer::End,
-            place: Place::Done,
-            count: count,
         },
-        KeyRead::Bare(key, at) => key_only(tag, starts, ends, html, checks, count, key, at),
-        KeyRead::Valued(key, eq) => key_valued(tag, starts, ends, html, checks, count, key, eq),
     }
 }
 

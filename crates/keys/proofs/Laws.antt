@@ -20,7 +20,7 @@ use Rattle.keys.specs.declared.Earlier.{Earlier}
 use Rattle.keys.specs.declared.Earlier.the-variants.{At, Nothing}
 use Rattle.keys.specs.declared.Checked.{Checked}
 use Rattle.keys.specs.declared.Checked.the-variants.{Fresh, Same, Full}
-use Rattle.keys.specs.Keys.{capacity, keyGood, keyBad, countGood, tableGood, KeysIn, EndsIn, Room, nameAt, lastIs, sameKey, oldestOf, earlierOf, checkedBy, checkedOf, writtenBy, countBy}
+use Rattle.keys.specs.Keys.{capacity, keyGood, keyBad, holds, countGood, tableGood, KeysIn, EndsIn, Room, HasPlace, nameAt, lastIs, sameKey, oldestOf, earlierOf, checkedBy, checkedOf, writtenBy, countBy}
 
 -- Two parts of a tag
 
@@ -331,21 +331,58 @@ keys-more starts ends count len from to i few hs he lt le =
 abbrev pub KeysAfter : Bool → Checked → List ℕ → List ℕ → (count from to len : ℕ) → Type 0
 KeysAfter checks v starts ends count from to len = KeysIn (writtenBy checks v starts count from) (writtenBy checks v ends count to) (countBy v count) len
 
--- The check of a key that is not empty and lies inside the tag leaves a good table good, whatever the verdict.
-pub keys-after : (tag : List ℕ) (checks : Bool) (starts ends : List ℕ) (count from to len : ℕ) → KeysIn starts ends count len → Room checks starts ends → from < to → to ≤ len → KeysAfter checks (checkedOf tag checks starts ends count from to) starts ends count from to len
-unfolding checkedOf checkedBy writtenBy countBy
-keys-after tag false starts ends count from to len i r lt le = i
-keys-after tag true starts ends count from to len i r lt le = by (earlierOf tag starts ends count from to) (ltb count capacity) refl where
-  by : (e : Earlier) (t : Bool) → ltb count capacity ≡ t → KeysAfter true (checkedBy count e) starts ends count from to len
-  by (At p) t h = i
-  by Nothing true h =
-      let few = ltb-true count capacity h in
-      let places = r .room refl in
-      rw h (keys-more starts ends count len from to i few (omega arith) (omega arith) lt le)
-  by Nothing false h = rw h i
+-- whether lists hold so many keys, as facts
+pub holds-facts : (starts ends : List ℕ) (n : ℕ) → holds starts ends n ≡ true → (n ≤ length starts) × (n ≤ length ends)
+holds-facts starts ends n h =
+    let b = both (leb n (length starts)) (leb n (length ends)) h in
+    (leb-true n (length starts) (b .0), leb-true n (length ends) (b .1))
 
--- What the contract of `check_for_duplicates` leaves: one verdict, and one content of both tables.
-pub check-one-answer : (tag : List ℕ) (checks : Bool) (starts ends : List ℕ) (count from to : ℕ) (v w : Checked) (s t e f : List ℕ) → (v ≡ checkedOf tag checks starts ends count from to) × (s ≡ writtenBy checks v starts count from) × (e ≡ writtenBy checks v ends count to) → (w ≡ checkedOf tag checks starts ends count from to) × (t ≡ writtenBy checks w starts count from) × (f ≡ writtenBy checks w ends count to) → (v ≡ w) × (s ≡ t) × (e ≡ f)
-check-one-answer tag checks starts ends count from to v w s t e f a b =
-    let same : v ≡ w = a .0 ∙ sym (b .0) in
-    (same, a .1 ∙ rw same (sym (b .1)), a .2 ∙ rw same (sym (b .2)))
+pub facts-hold : (starts ends : List ℕ) (n : ℕ) → n ≤ length starts → n ≤ length ends → holds starts ends n ≡ true
+facts-hold starts ends n a b = rw (le-leb n (length starts) a, le-leb n (length ends) b)
+
+module _ (tag starts ends : List ℕ) (count from to len : ℕ) (i : KeysIn starts ends count len) where
+  -- The check of a key that is not empty and lies inside the tag leaves a good table good, if the lists hold what is recorded then.
+  pub keys-held : (checks : Bool) → from < to → to ≤ len →
+      let v = checkedOf tag checks starts ends count from to in
+      holds starts ends (countBy v count) ≡ true → KeysAfter checks v starts ends count from to len
+  unfolding checkedOf checkedBy writtenBy countBy
+  keys-held false lt le = λ h. i
+  keys-held true lt le = by (earlierOf tag starts ends count from to) (ltb count capacity) refl where
+    by : (e : Earlier) (t : Bool) → ltb count capacity ≡ t → holds starts ends (countBy (checkedBy count e) count) ≡ true → KeysAfter true (checkedBy count e) starts ends count from to len
+    by (At p) t h = λ f. i
+    by Nothing true h =
+        rw h (λ f.
+        let few = ltb-true count capacity h in
+        let places = holds-facts starts ends (count + 1) f in
+        keys-more starts ends count len from to i few (omega arith) (omega arith) lt le)
+    by Nothing false h = rw h (λ f. i)
+
+  -- With room for as many keys as may ever be recorded they always do.
+  pub room-holds : (checks : Bool) → Room checks starts ends → holds starts ends (countBy (checkedOf tag checks starts ends count from to) count) ≡ true
+  unfolding checkedOf checkedBy countBy
+  room-holds false r = facts-hold starts ends count (i .placed .0) (i .placed .1)
+  room-holds true r = by (earlierOf tag starts ends count from to) (ltb count capacity) refl where
+    by : (e : Earlier) (t : Bool) → ltb count capacity ≡ t → holds starts ends (countBy (checkedBy count e) count) ≡ true
+    by (At p) t h = facts-hold starts ends count (i .placed .0) (i .placed .1)
+    by Nothing true h =
+        let few = ltb-true count capacity h in
+        let places = r .room refl in
+        rw h (facts-hold starts ends (count + 1) (omega arith) (omega arith))
+    by Nothing false h = rw h (facts-hold starts ends count (i .placed .0) (i .placed .1))
+
+pub keys-after : (tag : List ℕ) (checks : Bool) (starts ends : List ℕ) (count from to len : ℕ) → KeysIn starts ends count len → Room checks starts ends → from < to → to ≤ len → KeysAfter checks (checkedOf tag checks starts ends count from to) starts ends count from to len
+keys-after tag checks starts ends count from to len i r lt le =
+    keys-held tag starts ends count from to len i checks lt le (room-holds tag starts ends count from to len i checks r)
+
+-- A new key has its place where the lists hold as many keys as there are with it.
+pub fresh-place : (tag : List ℕ) (checks : Bool) (starts ends : List ℕ) (count from to n : ℕ) → checkedOf tag checks starts ends count from to ≡ Fresh n → holds starts ends n ≡ true → HasPlace checks starts ends count
+unfolding checkedOf checkedBy
+fresh-place tag false starts ends count from to n = λ e h. record { place = λ on. absurd (false≢true on) }
+fresh-place tag true starts ends count from to n = by (earlierOf tag starts ends count from to) (ltb count capacity) refl where
+  by : (x : Earlier) (t : Bool) → ltb count capacity ≡ t → checkedBy count x ≡ Fresh n → holds starts ends n ≡ true → HasPlace true starts ends count
+  by (At p) t h = λ e f. absurd (let z : _≡_ {A = ℕ} 0 1 = cc in omega arith)
+  by Nothing true h = rw h (λ e f.
+      let m : count + 1 ≡ n = cc in
+      let places = holds-facts starts ends n f in
+      record { place = λ _. (omega arith, omega arith) })
+  by Nothing false h = rw h (λ e f. absurd (let z : _≡_ {A = ℕ} 0 1 = cc in omega arith))

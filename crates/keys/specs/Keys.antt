@@ -25,9 +25,13 @@ keyGood len start end = ltb start end && leb end len
 unfoldable pub keyBad : ℕ → List ℕ → List ℕ → ℕ → Bool
 keyBad len starts ends k = not (keyGood len (getD starts k 0) (getD ends k 0))
 
+-- Whether lists hold so many keys: those of unequal lengths count as long as the shorter one.
+abbrev pub holds : (starts ends : List ℕ) → ℕ → Bool
+holds starts ends count = leb count (length starts) && leb count (length ends)
+
 -- the count is no more than the capacity, and each list has a place for every recorded key
 unfoldable pub countGood : List ℕ → List ℕ → ℕ → Bool
-countGood starts ends count = leb count capacity && (leb count (length starts) && leb count (length ends))
+countGood starts ends count = leb count capacity && holds starts ends count
 
 -- State 7 covers more keys than the capacity, and any recorded key that is bad: a table is good where neither is so.
 -- (Lent lists too short for the count are no table of that many keys.)
@@ -49,6 +53,10 @@ pub record EndsIn (ends : List ℕ) (count len : ℕ) : Type 0 where
 -- checks are off.
 pub record Room (checks : Bool) (starts ends : List ℕ) : Type 0 where
   pub room : checks ≡ true → (capacity ≤ length starts) × (capacity ≤ length ends)
+
+-- While checks are on each list has the place of the next key.
+pub record HasPlace (checks : Bool) (starts ends : List ℕ) (count : ℕ) : Type 0 where
+  pub place : checks ≡ true → (count < length starts) × (count < length ends)
 
 -- the name at index k: the bytes of that recorded key
 unfoldable pub nameAt : List ℕ → List ℕ → List ℕ → ℕ → List ℕ
@@ -83,11 +91,14 @@ checkedBy count Nothing = pick (ltb count capacity) (Fresh (count + 1)) Full
 unfoldable pub checkedOf : List ℕ → Bool → List ℕ → List ℕ → ℕ → ℕ → ℕ → Checked
 checkedOf tag checks starts ends count from to = pick checks (checkedBy count (earlierOf tag starts ends count from to)) (Fresh count)
 
--- One of the lists after a verdict, x being the key's own number in it. Recording a key writes the place at index count
--- and no other: unused key places keep their content. Refusals 5 and 6 write nothing, and no key is recorded while
--- checks are off.
+-- One of the lists after a new key is recorded, x being the key's own number in it: the place at index count is written and
+-- no other, so that unused key places keep their content. No key is recorded while checks are off.
+abbrev pub recordedIn : Bool → List ℕ → ℕ → ℕ → List ℕ
+recordedIn checks t count x = pick checks (set t count x) t
+
+-- One of the lists after a verdict: refusals 5 and 6 write nothing.
 unfoldable pub writtenBy : Bool → Checked → List ℕ → ℕ → ℕ → List ℕ
-writtenBy checks (Fresh n) t count x = pick checks (set t count x) t
+writtenBy checks (Fresh n) t count x = recordedIn checks t count x
 writtenBy checks (Same p) t count x = t
 writtenBy checks Full t count x = t
 

@@ -7,7 +7,7 @@ ghost use mathlib.Core.Path.{_≡_};
 ghost use Prim.Native.Nat.{_+_, _≤_, _<_};
 ghost use lib.ListN.{length};
 ghost use Rattle.scan.specs.First.{firstTo};
-ghost use Rattle.keys.specs.Keys.{KeysIn, EndsIn, Room, tableGood, lastIs, earlierOf, checkedOf, writtenBy};
+ghost use Rattle.keys.specs.Keys.{KeysIn, EndsIn, HasPlace, holds, tableGood, lastIs, earlierOf, checkedOf, recordedIn};
 
 // How many keys can be recorded: `capacity` of specs/Keys.antt.
 pub const CAPACITY: usize = 256;
@@ -133,21 +133,30 @@ pub fn keys_good<'a>(len: usize, starts: &'a [usize], ends: &'a [usize], count: 
     true
 }
 
-// Checks the key from `from` up to `to`, and records it where it is new and there is room:
-// `IterState::check_for_duplicates`, src/events/attributes.rs.
+// Whether tables have places for so many keys.
+pub fn holds<'a>(starts: &'a [usize], ends: &'a [usize], count: usize) -> bool
+    ensures { λ r. ⌜ r ≡ holds (now (starts .entry)) (now (ends .entry)) count ⌝ }
+{
+    if count > starts.len() {
+        return false;
+    }
+    count <= ends.len()
+}
+
+// The verdict on the key from `from` up to `to`: `IterState::check_for_duplicates`, src/events/attributes.rs, but for the
+// recording, which is `record_key`.
 pub fn check_for_duplicates<'a>(
     tag: &[u8],
-    starts: &'a mut [usize],
-    ends: &'a mut [usize],
+    starts: &'a [usize],
+    ends: &'a [usize],
     checks: bool,
     count: usize,
     from: usize,
     to: usize,
 ) -> Checked
     requires { ⌜ KeysIn (now starts) (now ends) count (length (now tag)) ⌝ }
-    requires { ⌜ Room checks (now starts) (now ends) ⌝ }
     requires { ⌜ (from < to) × (to ≤ length (now tag)) ⌝ }
-    ensures { λ r. ⌜ (r ≡ checkedOf (now (tag .entry)) checks (now (starts .entry)) (now (ends .entry)) count from to) × (now (starts .exit) ≡ writtenBy checks r (now (starts .entry)) count from) × (now (ends .exit) ≡ writtenBy checks r (now (ends .entry)) count to) ⌝ }
+    ensures { λ r. ⌜ r ≡ checkedOf (now (tag .entry)) checks (now (starts .entry)) (now (ends .entry)) count from to ⌝ }
 {
     if !checks {
         return Checked::Fresh(count);
@@ -159,9 +168,25 @@ pub fn check_for_duplicates<'a>(
             if count >= CAPACITY {
                 return Checked::Full;
             }
-            starts[count] = from;
-            ends[count] = to;
             Checked::Fresh(count + 1)
         }
+    }
+}
+
+// Records a key that is new, at the first unused place; while checks are off none is recorded.
+pub fn record_key<'a>(
+    starts: &'a mut [usize],
+    ends: &'a mut [usize],
+    checks: bool,
+    count: usize,
+    from: usize,
+    to: usize,
+)
+    requires { ⌜ HasPlace checks (now starts) (now ends) count ⌝ }
+    ensures { λ _. ⌜ (now (starts .exit) ≡ recordedIn checks (now (starts .entry)) count from) × (now (ends .exit) ≡ recordedIn checks (now (ends .entry)) count to) ⌝ }
+{
+    if checks {
+        starts[count] = from;
+        ends[count] = to;
     }
 }

@@ -1,59 +1,20 @@
--- `attributes::step_lent` meets its contract: where reading goes on, then the key that stands there; what was read of a key lies inside the tag.
-use mathlib.Core.Path.{sym, _∙_}
-use native.Mathlib.Omega.{arith}
+-- `attributes::step_lent` meets its contract: with room for every key each step is taken.
+use Rattle.attributes.proofs.Taken.{room-made, room-never}
 use borrow.Author.Needs.{needs}
-use Rattle.attributes.proofs.Whole.{step-ended, step-none, step-bare, step-valued, starts-in, bare-by, valued-by, at-in}
 use Rattle.attributes.proofs.step_lent.Statement.{statement}
 use Rattle.attributes.proofs.step_lent.Tie as tie
+use Rattle.attributes.proofs.step_lent.Reads as reads
+use Rattle.attributes.proofs.step_lent.Lts as lts
+use Rattle.attributes.proofs.step_in.Reads as step-in-reads
 
-recover-requires : tie.Need-recover-requires
-recover-requires c κs = search needs
+step-in-requires : tie.Need-step-in-requires
+step-in-requires c κs = record { inside = c .before .before .before .before .before .pre .inside; stands = c .before .before .before .before .before .pre .stands }
 
-enum-known-from : tie.Need-enum-known-from
-enum-known-from c = search needs
+enum-known-step : tie.Need-enum-known-step
+enum-known-step c = search needs
 
 enum-told : tie.Need-enum-told
 enum-told c = search needs
-
-returns : tie.Need-returns
-returns c = step-ended _ _ _ _ _ (sym (c .before .before .recover .ensures) ∙ c .enum-told .given .1)
-
-read-key-requires : tie.Need-read-key-requires
-read-key-requires c κs = search needs
-
-enum-told-2 : tie.Need-enum-told-2
-enum-told-2 c = search needs
-
-enum-known-key : tie.Need-enum-known-key
-enum-known-key c = search needs
-
-key-only-requires : tie.Need-key-only-requires
-key-only-requires c κs =
-    let r = c .before .before .before .before .before in
-    let from = sym (r .before .before .before .before .recover .ensures) ∙ r .before .before .from .given .1 in
-    let key = sym (r .read-key .ensures) ∙ c .before .before .before .key .given .1 in
-    let k = bare-by _ _ (starts-in _ _ _ from) _ _ key in
-    let ready = r .before .before .before .before .before .before .before .before .pre in
-    (ready .inside, (ready .room, (omega arith, omega arith)))
-
-enum-known-key-2 : tie.Need-enum-known-key-2
-enum-known-key-2 c = search needs
-
-key-valued-requires : tie.Need-key-valued-requires
-key-valued-requires c κs =
-    let r = c .before .before .before .before .before in
-    let from = sym (r .before .before .before .before .recover .ensures) ∙ r .before .before .from .given .1 in
-    let key = sym (r .read-key .ensures) ∙ c .before .before .before .key2 .given .1 in
-    let k = valued-by _ _ (starts-in _ _ _ from) _ _ key in
-    let ready = r .before .before .before .before .before .before .before .before .pre in
-    (ready .inside, (ready .room, ((omega arith, omega arith), at-in _ _ _ (k .1))))
-
-returns-2 : tie.Need-returns-2
-returns-2 c =
-    let r = c .before .before in
-    let from = sym (r .before .before .before .before .recover .ensures) ∙ r .before .before .from .given .1 in
-    let key = sym (r .read-key .ensures) ∙ c .enum-told2 .given .1 in
-    step-none _ _ _ _ _ _ from key
 
 same-length : tie.Need-same-length
 same-length c = search needs
@@ -61,12 +22,8 @@ same-length c = search needs
 same-length-2 : tie.Need-same-length-2
 same-length-2 c = search needs
 
-returns-3 : tie.Need-returns-3
-returns-3 c =
-    let r = c .before .before .before .before .before .before .before .before .before .before in
-    c .before .before .before .before .key-only .ensures ∙ step-bare _ _ _ _ _ _
-    (sym (r .before .before .before .before .recover .ensures) ∙ r .before .before .from .given .1) _ _
-    (sym (r .read-key .ensures) ∙ c .before .before .before .before .before .before .before .before .key .given .1)
+returns : tie.Need-returns
+returns c = room-made _ _ _ (c .before .before .before .before .before .before .before .before .before .before .before .before .before .pre .inside) (c .before .before .before .before .before .before .before .before .before .before .before .before .before .pre .room) _ _ _ _ _ _ (c .before .before .before .before .before .before .before .step-in .ensures) (c .before .step .given .1)
 
 same-length-3 : tie.Need-same-length-3
 same-length-3 c = search needs
@@ -74,31 +31,19 @@ same-length-3 c = search needs
 same-length-4 : tie.Need-same-length-4
 same-length-4 c = search needs
 
-returns-4 : tie.Need-returns-4
-returns-4 c =
-    let r = c .before .before .before .before .before .before .before .before .before .before in
-    c .before .before .before .before .key-valued .ensures ∙ step-valued _ _ _ _ _ _
-    (sym (r .before .before .before .before .recover .ensures) ∙ r .before .before .from .given .1) _ _
-    (sym (r .read-key .ensures) ∙ c .before .before .before .before .before .before .before .before .key2 .given .1)
+returns-2 : tie.Need-returns-2
+returns-2 c = absurd (room-never _ _ _ (c .before .before .before .before .before .before .before .before .before .before .before .before .pre .inside) (c .before .before .before .before .before .before .before .before .before .before .before .before .pre .room) _ _ _ _ _ (c .before .before .before .before .before .before .step-in .ensures) (c .enum-told .given .1))
 
 pub step-lent-spec : {M : Type 1} → statement M
 step-lent-spec =
     tie.close
     (tie.spec
-    recover-requires
-    enum-known-from
+    step-in-requires
+    enum-known-step
     enum-told
-    returns
-    read-key-requires
-    enum-told-2
-    enum-known-key
-    key-only-requires
-    enum-known-key-2
-    key-valued-requires
-    returns-2
     same-length
     same-length-2
-    returns-3
+    returns
     same-length-3
     same-length-4
-    returns-4)
+    returns-2)
