@@ -1,0 +1,133 @@
+// What the static library exports of a resolver to change it, for Rust or C to link. Each function hands what it is lent on to
+// the crate that has the rule, and answers by numbers; none asks anything of its caller. A slice passes as pointer and length,
+// an array of fixed length as its pointer alone.
+ghost use mathlib.Core.Path.{_≡_};
+ghost use mathlib.Core.List.{[]};
+ghost use Rattle.scope_table.specs.Lent.{freshIn, lentOf};
+ghost use Rattle.scope_change.specs.Change.{levelOf};
+ghost use Rattle.scope_declare.specs.Declare.{addOf, popOf};
+ghost use Rattle.export_memory.specs.Boundary.{across, changeIn};
+ghost use Rattle.export_scopes.specs.Layout.{layoutOf};
+ghost use Rattle.export_scopes.specs.Declared.{declaredBy};
+use export_memory::DETAIL;
+use export_memory::HEAD;
+use export_memory::WRONG;
+use name::Declares;
+use scope_table::NamespaceResolver;
+
+// The numbers that a caller's memory is held against, as `layoutOf` of specs/Layout.antt lists them. The kit has no
+// `size_of`, so the last two are what x86-64 has.
+const LAYOUT: [usize; 11] = [
+    keys::CAPACITY,
+    4,
+    5,
+    NamespaceResolver::TEXT,
+    NamespaceResolver::RECORDS,
+    NamespaceResolver::ROW,
+    HEAD,
+    DETAIL,
+    5,
+    8,
+    8,
+];
+
+// The library's own numbers, so that a caller can hold its memory against them: 0 key places of a table, 1 numbers of an
+// iterator's state, 2 of an answer; 3 bytes of text, 4 records, 5 numbers of a record, 6 of a head, 7 of a detail, 8 of a
+// listing's detail; 9 bytes of a number, 10 its alignment. Any other is 0.
+#[no_mangle]
+pub extern "C" fn mz_layout(what: usize) -> usize
+    ensures { λ r. ⌜ r ≡ layoutOf what ⌝ }
+{
+    if what < 11 {
+        return LAYOUT[what];
+    }
+    0
+}
+
+// Writes the fresh resolver, whatever stood in the lent memory: `scope_table::fresh_in`. `head` is text used, records in use,
+// level and limit, which the caller sets as it likes. 0, 98, 99.
+#[no_mangle]
+pub extern "C" fn mz_fresh(text: &mut [u8], records: &mut [usize], head: &mut [usize; 4]) -> usize
+    ensures { λ r.
+        ⌜ across r (now (text .exit)) (now (records .exit)) (now (head .exit)) []
+        ≡ changeIn 0 freshIn (now (text .entry)) (now (records .entry)) (now (head .entry)) [] ⌝ }
+{
+    if !export_memory::has(head, HEAD) {
+        return WRONG;
+    }
+    let h = export_memory::head_from(head);
+    let out = scope_table::fresh_in(text, records, h);
+    export_memory::left_head(head, out)
+}
+
+// A scope ends: `scope_declare::pop_in`.
+#[no_mangle]
+pub extern "C" fn mz_pop(text: &mut [u8], records: &mut [usize], head: &mut [usize; 4]) -> usize
+    ensures { λ r.
+        ⌜ across r (now (text .exit)) (now (records .exit)) (now (head .exit)) []
+        ≡ changeIn 0 (lentOf popOf) (now (text .entry)) (now (records .entry)) (now (head .entry)) [] ⌝ }
+{
+    if !export_memory::has(head, HEAD) {
+        return WRONG;
+    }
+    let h = export_memory::head_from(head);
+    let out = scope_declare::pop_in(text, records, h);
+    export_memory::left_head(head, out)
+}
+
+// A level is set, and the records above it are dropped: `scope_change::set_level_in`.
+#[no_mangle]
+pub extern "C" fn mz_set_level(
+    text: &mut [u8],
+    records: &mut [usize],
+    head: &mut [usize; 4],
+    to: u16,
+) -> usize
+    ensures { λ r.
+        ⌜ across r (now (text .exit)) (now (records .exit)) (now (head .exit)) []
+        ≡ changeIn 0 (lentOf (levelOf to)) (now (text .entry)) (now (records .entry)) (now (head .entry)) [] ⌝ }
+{
+    if !export_memory::has(head, HEAD) {
+        return WRONG;
+    }
+    let h = export_memory::head_from(head);
+    let out = scope_change::set_level_in(text, records, h, to);
+    export_memory::left_head(head, out)
+}
+
+// A named prefix, or the default.
+fn declared_by(named: bool) -> Declares
+    ensures { λ r. ⌜ r ≡ declaredBy named ⌝ }
+{
+    if named {
+        return Declares::Named;
+    }
+    Declares::Default
+}
+
+// A binding goes in: `scope_declare::add_in`. Without `named` the default, whatever `prefix` holds.
+#[no_mangle]
+pub extern "C" fn mz_add<'p>(
+    text: &mut [u8],
+    records: &mut [usize],
+    head: &mut [usize; 4],
+    named: bool,
+    prefix: &'p [u8],
+    value: &'p [u8],
+    detail: &mut [usize; 2],
+) -> usize
+    ensures { λ r.
+        ⌜ across r (now (text .exit)) (now (records .exit)) (now (head .exit)) (now (detail .exit))
+        ≡ changeIn 2 (lentOf (addOf (declaredBy named) (now (prefix .entry)) (now (value .entry))))
+        (now (text .entry)) (now (records .entry)) (now (head .entry)) (now (detail .entry)) ⌝ }
+{
+    if !export_memory::has(head, HEAD) {
+        return WRONG;
+    }
+    if !export_memory::has(detail, DETAIL) {
+        return WRONG;
+    }
+    let h = export_memory::head_from(head);
+    let out = scope_declare::add_in(text, records, h, declared_by(named), prefix, value);
+    export_memory::left(head, detail, out)
+}
