@@ -66,6 +66,14 @@ declarationsOf s (a ∷ more) = declarationThen s a (declarationsOf s more)
 unfoldable pub tagAnswers : (tag : List ℕ) (from : ℕ) → List Answer
 tagAnswers s from = answersOf s (opened from false false)
 
+-- its declarations
+abbrev pub tagDeclarations : (tag : List ℕ) (from : ℕ) → List Declaration
+tagDeclarations s from = declarationsOf s (tagAnswers s from)
+
+-- one of them on a resolver
+abbrev pub declareOne : Room → Declaration → NamespaceResolver → Changed
+declareOne room d = declareOf room (d .kind) (d .prefix) (d .value) (d .at)
+
 -- where a refusal of `add` stops, and else what comes next
 unfoldable pub thenOf : Changed → (NamespaceResolver → Changed) → Changed
 thenOf c next = pick (isDone (c .answer)) (next (c .resolver)) c
@@ -73,8 +81,7 @@ thenOf c next = pick (isDone (c .answer)) (next (c .resolver)) c
 -- One after the other. A refusal of `add` is returned with what went in before it.
 unfoldable pub declareAll : Room → List Declaration → NamespaceResolver → Changed
 declareAll room [] x = changed Done x
-declareAll room (d ∷ more) x =
-    thenOf (declareOf room (d .kind) (d .prefix) (d .value) (d .at) x) (declareAll room more)
+declareAll room (d ∷ more) x = thenOf (declareOne room d x) (declareAll room more)
 
 -- `push` raises the level.
 unfoldable pub raisedOf : NamespaceResolver → NamespaceResolver
@@ -87,5 +94,5 @@ unfoldable pub pushOf : (tag : List ℕ) (from : ℕ) → NamespaceResolver → 
 pushOf s from x =
     pick (validOf x)
     (pick (leb DEEPEST (x .head .level)) (changed (TooDeeplyNested DEEPEST) x)
-    (declareAll whole (declarationsOf s (tagAnswers s from)) (raisedOf x)))
+    (declareAll whole (tagDeclarations s from) (raisedOf x)))
     (changed BadResolver x)

@@ -1,0 +1,4 @@
+pub mod Run
+pub mod Texts
+pub mod Turns
+pub mod Laws
