@@ -6,6 +6,7 @@ ghost use mathlib.Core.List.{[]};
 ghost use Rattle.scope_table.specs.Lent.{freshIn, lentOf};
 ghost use Rattle.scope_change.specs.Change.{levelOf};
 ghost use Rattle.scope_declare.specs.Declare.{addOf, popOf};
+ghost use Rattle.scope_push.specs.Push.{pushOf};
 ghost use Rattle.export_memory.specs.Boundary.{across, changeIn};
 ghost use Rattle.export_scopes.specs.Layout.{layoutOf};
 ghost use Rattle.export_scopes.specs.Declared.{declaredBy};
@@ -58,6 +59,31 @@ pub extern "C" fn mz_fresh(text: &mut [u8], records: &mut [usize], head: &mut [u
     let h = export_memory::head_from(head);
     let out = scope_table::fresh_in(text, records, h);
     export_memory::left_head(head, out)
+}
+
+// A tag opens a scope: `scope_push::push_in`. 0, or the refusal's number with its values in `detail`.
+#[no_mangle]
+pub extern "C" fn mz_push(
+    text: &mut [u8],
+    records: &mut [usize],
+    head: &mut [usize; 4],
+    tag: &[u8],
+    at: usize,
+    detail: &mut [usize; 2],
+) -> usize
+    ensures { λ r.
+        ⌜ across r (now (text .exit)) (now (records .exit)) (now (head .exit)) (now (detail .exit))
+        ≡ changeIn 2 (lentOf (pushOf (now (tag .entry)) at)) (now (text .entry)) (now (records .entry)) (now (head .entry)) (now (detail .entry)) ⌝ }
+{
+    if !export_memory::has(head, HEAD) {
+        return WRONG;
+    }
+    if !export_memory::has(detail, DETAIL) {
+        return WRONG;
+    }
+    let h = export_memory::head_from(head);
+    let out = scope_push::push_in(text, records, h, tag, at);
+    export_memory::left(head, detail, out)
 }
 
 // A scope ends: `scope_declare::pop_in`.
