@@ -1,18 +1,20 @@
 -- Document 01, "Scopes": the two listings of bindings. Each takes a place and answers the first record at or after it that
 -- it shows.
-use Prim.Native.Nat.{ℕ, _+_}
+use Prim.Native.Nat.{ℕ, _+_, _≤_, _<_}
 use mathlib.Core.Bool.{Bool, not, _&&_}
 use mathlib.Core.List.{List, [], _∷_}
 use lib.Dec.{eqb, ltb}
+use lib.ListN.{getD, length}
 use Rattle.scan.specs.First.{pick, firstTo}
 use Rattle.scan.specs.Bytes.{sameBytes}
-use Rattle.scope_table.specs.Records.{recordAt, valueStart, valueEnd, prefixIn}
-use Rattle.scope_table.specs.Table.{validOf}
+use Rattle.scope_table.specs.Records.{rowAt, recordAt, valueStart, valueEnd, prefixIn}
+use Rattle.scope_table.specs.Table.{levelBefore, validOf}
 use Rattle.scope_table.specs.declared.NamespaceBinding.{NamespaceBinding}
 use Rattle.scope_table.specs.declared.NamespaceResolver.{NamespaceResolver}
 use Rattle.scope_listing.specs.declared.Listed.{Listed}
 use Rattle.scope_listing.specs.declared.Listed.the-variants.{Binding, End, BadResolver, WrongLength}
 use Rattle.scope_listing.specs.declared.Listing.{Listing}
+use Rattle.scope_listing.specs.declared.LinedUp.{LinedUp}
 
 abbrev pub listing : Listed → ℕ → Listing
 listing a place = record { answer = a; place = place }
@@ -24,6 +26,17 @@ listedNumbers (Binding a m e) = pick (eqb a m) 1 2 ∷ a ∷ m ∷ m ∷ e ∷ [
 listedNumbers End = 0 ∷ []
 listedNumbers BadResolver = 20 ∷ []
 listedNumbers WrongLength = 99 ∷ []
+
+-- such a list as five numbers, 0 where it has none
+abbrev pub linedUp : List ℕ → LinedUp
+linedUp ns =
+    record {
+      number = getD ns 0 0;
+      «prefix_from» = getD ns 1 0;
+      «prefix_to» = getD ns 2 0;
+      «value_from» = getD ns 3 0;
+      «value_to» = getD ns 4 0;
+    }
 
 -- whether the value of a record is not empty
 unfoldable pub hasValue : NamespaceBinding → Bool
@@ -41,6 +54,11 @@ inEffect text rows count i = hasValue (rows i) && not (isOverridden text rows co
 -- `bindings_of` shows one level's nonempty ones, built-ins at 0 included, overridden or not.
 unfoldable pub atLevel : (level : ℕ) → NamespaceBinding → Bool
 atLevel level b = eqb (b .level) level && hasValue b
+
+-- What the search of one level asks of the records: each in use is lent, and no level is below the one before it.
+pub record Rising (records : List ℕ) (count : ℕ) : Type 0 where
+  pub rows : rowAt count ≤ length records
+  pub each : (k : ℕ) → k < count → levelBefore (recordAt records) k ≤ recordAt records k .level
 
 -- a record as it is shown: its prefix, then its value, as bounds in the text
 unfoldable pub shownOf : NamespaceBinding → Listed
