@@ -1,0 +1,4 @@
+pub mod Ends
+pub mod Tags
+pub mod Scopes
+pub mod Exports
