@@ -1,1 +1,3 @@
-mod Turn
+pub mod Turn
+pub mod Written
+pub mod Showing

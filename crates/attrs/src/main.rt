@@ -10,9 +10,11 @@ use attributes::Place;
 use batch::Batch;
 use keys::CAPACITY;
 ghost use mathlib.Core.Path.{_≡_};
+ghost use Prim.Native.Nat.{_+_, _≤_};
 ghost use lib.ListN.{length};
 ghost use Rattle.attributes.specs.Run.{answersOf};
 ghost use Rattle.attrs.specs.Count.{Lent, openedOn, tagAnswers};
+ghost use Rattle.attrs.specs.Output.{countLine, outputOf, ComesNext, ToCount, Counted, ToShow};
 
 // How many answers a batch holds, five numbers each, and the bytes that their lines have room in.
 const ANSWERS: usize = 256;
@@ -57,19 +59,43 @@ fn count(tag: &[u8]) -> usize
     count_on(tag, &mut starts, &mut ends, &mut numbers)
 }
 
-// Shows one page after another: `pages` are enough for all answers, and one without answers shows nothing.
+// Writes the next part of the output, of which `written` bytes are written already. All that a tag gives goes this way.
+fn write_next(tag: &[u8], text: &[u8], written: &mut usize)
+    requires { ⌜ ComesNext (now tag) (now written) (now text) ⌝ }
+    ensures { λ _. ⌜ now (written .exit) ≡ now (written .entry) + length (now (text .entry)) ⌝ }
+{
+    io::write_all(1, text);
+    *written += text.len();
+}
+
+// The count, as a line.
+fn show_count(tag: &[u8], total: usize, written: &mut usize)
+    requires { ⌜ ToCount (now tag) (now written) total ⌝ }
+    ensures { λ _. ⌜ now (written .exit) ≡ length (countLine total) ⌝ }
+{
+    write_next(tag, b"answers ", written);
+    let mut digits = [0u8; 20];
+    let k = io::decimal(total as u64, &mut digits);
+    write_next(tag, &digits[..k], written);
+    write_next(tag, b"\n", written);
+}
+
+// The lines of the answers, one page after another on lent tables: each page is the next 256 answers, the last one fewer.
 fn show_on<'a>(
     tag: &[u8],
     starts: &'a mut [usize],
     ends: &'a mut [usize],
     numbers: &mut [usize],
     text: &mut [u8],
-    pages: usize,
-) {
+    written: &mut usize,
+)
+    requires { ⌜ ToShow (now tag) (now starts) (now ends) (now numbers) (now text) (now written) ⌝ }
+    ensures { λ _. ⌜ now (written .exit) ≡ length (outputOf (now (tag .entry))) ⌝ }
+{
     let mut place = Place::Next(0);
     let mut recorded = 0;
     let mut shown = 0;
-    while shown < pages {
+    loop {
         let page = lines::page(
             tag,
             starts,
@@ -82,20 +108,24 @@ fn show_on<'a>(
             text,
         );
         let length = page.length;
-        if length <= text.len() {
-            io::write_all(1, &text[..length]);
-        }
+        write_next(tag, &text[..length], written);
         let left = page.left;
-        let Batch::Read(_, next, count) = left else {
+        let Batch::Read(n, behind, keys) = left else {
             return;
         };
-        place = next;
-        recorded = count;
-        shown += 1;
+        if n < ANSWERS {
+            return;
+        }
+        shown += n;
+        place = behind;
+        recorded = keys;
     }
 }
 
-fn show(tag: &[u8], total: usize) {
+fn show(tag: &[u8], written: &mut usize)
+    requires { ⌜ Counted (now tag) (now written) ⌝ }
+    ensures { λ _. ⌜ now (written .exit) ≡ length (outputOf (now (tag .entry))) ⌝ }
+{
     let mut starts = [0usize; CAPACITY];
     let mut ends = [0usize; CAPACITY];
     let mut numbers = [0usize; NUMBERS];
@@ -106,8 +136,20 @@ fn show(tag: &[u8], total: usize) {
         &mut ends,
         &mut numbers,
         &mut text,
-        total / ANSWERS + 1,
+        written,
     );
+}
+
+// Writes the whole output, from its first byte on, and answers how many bytes that are.
+fn print(tag: &[u8]) -> usize
+    requires { ⌜ length (now tag) ≤ 65536 ⌝ }
+    ensures { λ r. ⌜ r ≡ length (outputOf (now (tag .entry))) ⌝ }
+{
+    let mut written = 0;
+    let total = count(tag);
+    show_count(tag, total, &mut written);
+    show(tag, &mut written);
+    written
 }
 
 fn main() {
@@ -118,10 +160,5 @@ fn main() {
         io::write_all(1, b"too long\n");
         return;
     }
-    let tag = &buffer[..n];
-    let total = count(tag);
-    io::write_all(1, b"answers ");
-    io::print_decimal(1, total as u64);
-    io::write_all(1, b"\n");
-    show(tag, total);
+    print(&buffer[..n]);
 }

@@ -1,35 +1,43 @@
--- `attrs::show_on` is safe and ends: the lent tables keep their lengths, and each turn shows one page.
-use Prim.Native.Nat.{ℕ, _-_, _≤_}
+-- `attrs::show_on` meets its contract: each turn writes the lines of the next answers, where the last turn stopped. The
+-- measure is how many answers can be left.
+use Prim.Native.Nat.{ℕ, _+_, _-_, _≤_}
 use mathlib.Core.Path.{_≡_, refl, sym}
+use mathlib.Core.Bool.{true, false}
 use native.Mathlib.Omega.{arith}
 use lib.ListN.{length}
 use lib.Seq.{length-take-le}
 use borrow.Author.Needs.{needs}
+use Rattle.attributes.specs.Next.{lentState}
+use Rattle.attrs.proofs.Showing.{Showing, showing-none, turn-fits, turn-next, turn-never, turn-last, turn-adds, turn-less, turn-more}
 use Rattle.attrs.proofs.show_on.Statement.{statement}
 use Rattle.attrs.proofs.show_on.Tie as tie
 
 abbrev Inv-loop : tie.InvT-loop
-Inv-loop tag starts₀ ends₀ numbers₀ text₀ pages place₀ recorded₀ shown₀ starts ends numbers text place recorded shown =
-    (shown ≤ pages) × (length starts ≡ length starts₀) × (length ends ≡ length ends₀) × (length numbers ≡ length numbers₀) × (length text ≡ length text₀)
+Inv-loop tag starts₀ ends₀ numbers₀ text₀ written₀ place₀ recorded₀ shown₀ starts ends numbers text written place recorded shown =
+    Showing tag numbers text written shown (lentState place false true starts ends recorded)
+    × (length starts ≡ length starts₀)
+    × (length ends ≡ length ends₀)
+    × (length numbers ≡ length numbers₀)
+    × (length text ≡ length text₀)
 
 abbrev μ-loop : tie.MeasureT-loop
-μ-loop tag starts₀ ends₀ numbers₀ text₀ pages place₀ recorded₀ shown₀ starts ends numbers text place recorded shown =
-    pages - shown
+μ-loop tag starts₀ ends₀ numbers₀ text₀ written₀ place₀ recorded₀ shown₀ starts ends numbers text written place recorded shown =
+    length tag + 1 - shown
 
 loop-holds : tie.Need-loop-holds Inv-loop μ-loop
-loop-holds c = (omega arith, refl, refl, refl, refl)
+loop-holds c = (showing-none (c .before .before .before .before .before .args .tag .now) (c .before .before .before .before .before .args .starts .now) (c .before .before .before .before .before .args .ends .now) (c .before .before .before .before .before .args .numbers .now) (c .before .before .before .before .before .args .text .now) (c .before .before .before .before .before .args .written .now) (c .before .before .before .before .before .pre), refl, refl, refl, refl)
 
 page-requires : tie.Need-page-requires Inv-loop μ-loop
 page-requires c κs = search needs
 
-slice-reshare-prefix-write-all : tie.Need-slice-reshare-prefix-write-all Inv-loop μ-loop
-slice-reshare-prefix-write-all c = search needs
+slice-reshare-prefix-write-next : tie.Need-slice-reshare-prefix-write-next Inv-loop μ-loop
+slice-reshare-prefix-write-next c = turn-fits (c .before .before .before .before .before .before .before .before .before .before .before .before .before .before .before .before .before .before .before .args .tag .now) (c .before .before .before .before .before .before .before .before .before .before .before .before .before .loop .place) (c .before .before .before .before .before .before .before .before .before .before .before .before .before .loop .starts) (c .before .before .before .before .before .before .before .before .before .before .before .before .before .loop .ends) (c .before .before .before .before .before .before .before .before .before .before .before .before .before .loop .recorded) (c .before .before .before .before .before .before .before .before .before .before .before .before .before .loop .numbers) (c .before .before .before .before .before .before .before .before .before .before .before .before .before .loop .text) (c .before .before .before .before .before .before .before .before .before .before .before .before .before .loop .written) (c .before .before .before .before .before .before .before .before .before .before .before .before .before .loop .shown) (c .before .before .before .before .before .before .before .before .before .before .before .before .before .loop .inv .0) (c .before .before .before .before .before .before .before .before .page .ensures .1) (c .before .before .before .before .before .before .before .before .page .ensures .5)
 
-slice-aggregate-write-all : tie.Need-slice-aggregate-write-all Inv-loop μ-loop
-slice-aggregate-write-all c = sym (length-take-le _ _ (c .before .if1 .taken))
+slice-aggregate-write-next : tie.Need-slice-aggregate-write-next Inv-loop μ-loop
+slice-aggregate-write-next c = sym (length-take-le _ _ (turn-fits (c .before .before .before .before .before .before .before .before .before .before .before .before .before .before .before .before .before .before .before .before .args .tag .now) (c .before .before .before .before .before .before .before .before .before .before .before .before .before .before .loop .place) (c .before .before .before .before .before .before .before .before .before .before .before .before .before .before .loop .starts) (c .before .before .before .before .before .before .before .before .before .before .before .before .before .before .loop .ends) (c .before .before .before .before .before .before .before .before .before .before .before .before .before .before .loop .recorded) (c .before .before .before .before .before .before .before .before .before .before .before .before .before .before .loop .numbers) (c .before .before .before .before .before .before .before .before .before .before .before .before .before .before .loop .text) (c .before .before .before .before .before .before .before .before .before .before .before .before .before .before .loop .written) (c .before .before .before .before .before .before .before .before .before .before .before .before .before .before .loop .shown) (c .before .before .before .before .before .before .before .before .before .before .before .before .before .before .loop .inv .0) (c .before .before .before .before .before .before .before .before .before .page .ensures .1) (c .before .before .before .before .before .before .before .before .before .page .ensures .5)))
 
-write-all-requires : tie.Need-write-all-requires Inv-loop μ-loop
-write-all-requires c κs = search needs
+write-next-requires : tie.Need-write-next-requires Inv-loop μ-loop
+write-next-requires c κs = turn-next (c .before .before .before .before .before .before .before .before .before .before .before .before .before .before .before .before .before .before .before .before .before .args .tag .now) (c .before .before .before .before .before .before .before .before .before .before .before .before .before .before .before .loop .place) (c .before .before .before .before .before .before .before .before .before .before .before .before .before .before .before .loop .starts) (c .before .before .before .before .before .before .before .before .before .before .before .before .before .before .before .loop .ends) (c .before .before .before .before .before .before .before .before .before .before .before .before .before .before .before .loop .recorded) (c .before .before .before .before .before .before .before .before .before .before .before .before .before .before .before .loop .numbers) (c .before .before .before .before .before .before .before .before .before .before .before .before .before .before .before .loop .text) (c .before .before .before .before .before .before .before .before .before .before .before .before .before .before .before .loop .written) (c .before .before .before .before .before .before .before .before .before .before .before .before .before .before .before .loop .shown) (c .before .before .before .before .before .before .before .before .before .before .before .before .before .before .before .loop .inv .0) (c .before .before .before .before .before .before .before .before .before .before .page .ensures .1) (c .before .before .before .before .before .before .before .before .before .before .page .ensures .5)
 
 enum-known-left : tie.Need-enum-known-left Inv-loop μ-loop
 enum-known-left c = search needs
@@ -50,16 +58,7 @@ same-length-4 : tie.Need-same-length-4 Inv-loop μ-loop
 same-length-4 c = search needs
 
 returns : tie.Need-returns Inv-loop μ-loop
-returns c = search needs
-
-add-shown : tie.Need-add-shown Inv-loop μ-loop
-add-shown c = search needs
-
-loop-less : tie.Need-loop-less Inv-loop μ-loop
-loop-less c = search needs
-
-loop-again : tie.Need-loop-again Inv-loop μ-loop
-loop-again c = search needs
+returns c = absurd (turn-never (c .before .before .before .before .before .before .before .before .before .before .before .before .before .before .before .before .before .before .before .before .before .before .before .before .args .tag .now) (c .before .before .before .before .before .before .before .before .before .before .before .before .before .before .before .before .before .before .loop .place) (c .before .before .before .before .before .before .before .before .before .before .before .before .before .before .before .before .before .before .loop .starts) (c .before .before .before .before .before .before .before .before .before .before .before .before .before .before .before .before .before .before .loop .ends) (c .before .before .before .before .before .before .before .before .before .before .before .before .before .before .before .before .before .before .loop .recorded) (c .before .before .before .before .before .before .before .before .before .before .before .before .before .before .before .before .before .before .loop .numbers) (c .before .before .before .before .before .before .before .before .before .before .before .before .before .before .before .before .before .before .loop .text) (c .before .before .before .before .before .before .before .before .before .before .before .before .before .before .before .before .before .before .loop .written) (c .before .before .before .before .before .before .before .before .before .before .before .before .before .before .before .before .before .before .loop .shown) (c .before .before .before .before .before .before .before .before .before .before .before .before .before .before .before .before .before .before .loop .inv .0) (c .before .before .before .before .before .before .before .before .before .before .before .before .before .page .ensures .1) (c .before .before .before .before .before .before .before .before .before .before .before .before .before .page .ensures .5) (c .before .before .write-next .ensures) (c .before .before .before .before .before .before .before .before .before .before .before .before .before .page .ensures .0) (c .enum-told .given .1))
 
 same-length-5 : tie.Need-same-length-5 Inv-loop μ-loop
 same-length-5 c = search needs
@@ -74,7 +73,16 @@ same-length-8 : tie.Need-same-length-8 Inv-loop μ-loop
 same-length-8 c = search needs
 
 returns-2 : tie.Need-returns-2 Inv-loop μ-loop
-returns-2 c = search needs
+returns-2 c = turn-last (c .before .before .before .before .before .before .before .before .before .before .before .before .before .before .before .before .before .before .before .before .before .before .before .before .before .before .args .tag .now) (c .before .before .before .before .before .before .before .before .before .before .before .before .before .before .before .before .before .before .before .before .loop .place) (c .before .before .before .before .before .before .before .before .before .before .before .before .before .before .before .before .before .before .before .before .loop .starts) (c .before .before .before .before .before .before .before .before .before .before .before .before .before .before .before .before .before .before .before .before .loop .ends) (c .before .before .before .before .before .before .before .before .before .before .before .before .before .before .before .before .before .before .before .before .loop .recorded) (c .before .before .before .before .before .before .before .before .before .before .before .before .before .before .before .before .before .before .before .before .loop .numbers) (c .before .before .before .before .before .before .before .before .before .before .before .before .before .before .before .before .before .before .before .before .loop .text) (c .before .before .before .before .before .before .before .before .before .before .before .before .before .before .before .before .before .before .before .before .loop .written) (c .before .before .before .before .before .before .before .before .before .before .before .before .before .before .before .before .before .before .before .before .loop .shown) (c .before .before .before .before .before .before .before .before .before .before .before .before .before .before .before .before .before .before .before .before .loop .inv .0) (c .before .before .before .before .before .before .before .before .before .before .before .before .before .before .before .page .ensures .1) (c .before .before .before .before .before .before .before .before .before .before .before .before .before .before .before .page .ensures .5) (c .before .before .before .before .write-next .ensures) (c .before .before .before .before .before .before .before .before .before .before .before .before .before .before .before .page .ensures .0) (c .before .before .left .given .1) (c .if1 .taken)
+
+add-shown : tie.Need-add-shown Inv-loop μ-loop
+add-shown c = omega (arith, turn-adds (c .before .before .before .before .before .before .before .before .before .before .before .before .before .before .before .before .before .before .before .before .before .before .before .before .before .before .args .tag .now) (c .before .before .before .before .before .before .before .before .before .before .before .before .before .before .before .before .before .before .before .before .loop .place) (c .before .before .before .before .before .before .before .before .before .before .before .before .before .before .before .before .before .before .before .before .loop .starts) (c .before .before .before .before .before .before .before .before .before .before .before .before .before .before .before .before .before .before .before .before .loop .ends) (c .before .before .before .before .before .before .before .before .before .before .before .before .before .before .before .before .before .before .before .before .loop .recorded) (c .before .before .before .before .before .before .before .before .before .before .before .before .before .before .before .before .before .before .before .before .loop .numbers) (c .before .before .before .before .before .before .before .before .before .before .before .before .before .before .before .before .before .before .before .before .loop .text) (c .before .before .before .before .before .before .before .before .before .before .before .before .before .before .before .before .before .before .before .before .loop .written) (c .before .before .before .before .before .before .before .before .before .before .before .before .before .before .before .before .before .before .before .before .loop .shown) (c .before .before .before .before .before .before .before .before .before .before .before .before .before .before .before .before .before .before .before .before .loop .inv .0) (c .before .before .before .before .before .before .before .before .before .before .before .before .before .before .before .page .ensures .1) (c .before .before .before .before .before .before .before .before .before .before .before .before .before .before .before .page .ensures .5) (c .before .before .before .before .write-next .ensures) (c .before .before .before .before .before .before .before .before .before .before .before .before .before .before .before .page .ensures .0) (c .before .before .left .given .1))
+
+loop-less : tie.Need-loop-less Inv-loop μ-loop
+loop-less c = turn-less (c .before .before .before .before .before .before .before .before .before .before .before .before .before .before .before .before .before .before .before .before .before .before .before .before .before .before .args .tag .now) (c .before .before .before .before .before .before .before .before .before .before .before .before .before .before .before .before .before .before .before .before .loop .place) (c .before .before .before .before .before .before .before .before .before .before .before .before .before .before .before .before .before .before .before .before .loop .starts) (c .before .before .before .before .before .before .before .before .before .before .before .before .before .before .before .before .before .before .before .before .loop .ends) (c .before .before .before .before .before .before .before .before .before .before .before .before .before .before .before .before .before .before .before .before .loop .recorded) (c .before .before .before .before .before .before .before .before .before .before .before .before .before .before .before .before .before .before .before .before .loop .numbers) (c .before .before .before .before .before .before .before .before .before .before .before .before .before .before .before .before .before .before .before .before .loop .text) (c .before .before .before .before .before .before .before .before .before .before .before .before .before .before .before .before .before .before .before .before .loop .written) (c .before .before .before .before .before .before .before .before .before .before .before .before .before .before .before .before .before .before .before .before .loop .shown) (c .before .before .before .before .before .before .before .before .before .before .before .before .before .before .before .before .before .before .before .before .loop .inv .0) (c .before .before .before .before .before .before .before .before .before .before .before .before .before .before .before .page .ensures .1) (c .before .before .before .before .before .before .before .before .before .before .before .before .before .before .before .page .ensures .5) (c .before .before .before .before .write-next .ensures) (c .before .before .before .before .before .before .before .before .before .before .before .before .before .before .before .page .ensures .0) (c .before .before .left .given .1) (c .if1 .left)
+
+loop-again : tie.Need-loop-again Inv-loop μ-loop
+loop-again c = (turn-more (c .before .before .before .before .before .before .before .before .before .before .before .before .before .before .before .before .before .before .before .before .before .before .before .before .before .before .args .tag .now) (c .before .before .before .before .before .before .before .before .before .before .before .before .before .before .before .before .before .before .before .before .loop .place) (c .before .before .before .before .before .before .before .before .before .before .before .before .before .before .before .before .before .before .before .before .loop .starts) (c .before .before .before .before .before .before .before .before .before .before .before .before .before .before .before .before .before .before .before .before .loop .ends) (c .before .before .before .before .before .before .before .before .before .before .before .before .before .before .before .before .before .before .before .before .loop .recorded) (c .before .before .before .before .before .before .before .before .before .before .before .before .before .before .before .before .before .before .before .before .loop .numbers) (c .before .before .before .before .before .before .before .before .before .before .before .before .before .before .before .before .before .before .before .before .loop .text) (c .before .before .before .before .before .before .before .before .before .before .before .before .before .before .before .before .before .before .before .before .loop .written) (c .before .before .before .before .before .before .before .before .before .before .before .before .before .before .before .before .before .before .before .before .loop .shown) (c .before .before .before .before .before .before .before .before .before .before .before .before .before .before .before .before .before .before .before .before .loop .inv .0) (c .before .before .before .before .before .before .before .before .before .before .before .before .before .before .before .page .ensures .1) (c .before .before .before .before .before .before .before .before .before .before .before .before .before .before .before .page .ensures .5) (c .before .before .before .before .write-next .ensures) (c .before .before .before .before .before .before .before .before .before .before .before .before .before .before .before .page .ensures .0) (c .before .before .left .given .1) (c .if1 .left) _ (c .before .before .before .before .before .before .before .before .before .before .before .before .before .before .before .page .ensures .2) (c .before .before .before .before .before .before .before .before .before .before .before .before .before .before .before .page .ensures .3) (search needs), search needs, search needs, search needs, search needs)
 
 pub show-on-spec : {M : Type 1} → statement M
 show-on-spec =
@@ -84,9 +92,9 @@ show-on-spec =
     μ-loop
     loop-holds
     page-requires
-    slice-reshare-prefix-write-all
-    slice-aggregate-write-all
-    write-all-requires
+    slice-reshare-prefix-write-next
+    slice-aggregate-write-next
+    write-next-requires
     enum-known-left
     enum-told
     same-length
@@ -94,11 +102,11 @@ show-on-spec =
     same-length-3
     same-length-4
     returns
-    add-shown
-    loop-less
-    loop-again
     same-length-5
     same-length-6
     same-length-7
     same-length-8
-    returns-2)
+    returns-2
+    add-shown
+    loop-less
+    loop-again)

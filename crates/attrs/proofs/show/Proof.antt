@@ -1,0 +1,37 @@
+-- `attrs::show` meets its contract: tables of zeros are those of a fresh iterator, and the text has room for a page.
+use mathlib.Core.Path.{refl}
+use native.Mathlib.Omega.{arith}
+use Rattle.batch.specs.Batch.{roomOf}
+use borrow.Author.Needs.{needs}
+use Rattle.attrs.proofs.show.Statement.{statement}
+use Rattle.attrs.proofs.show.Tie as tie
+
+slice-aggregate-show-on : tie.Need-slice-aggregate-show-on
+slice-aggregate-show-on c = search needs
+
+slice-aggregate-show-on-2 : tie.Need-slice-aggregate-show-on-2
+slice-aggregate-show-on-2 c = search needs
+
+slice-aggregate-show-on-3 : tie.Need-slice-aggregate-show-on-3
+slice-aggregate-show-on-3 c = search needs
+
+slice-aggregate-show-on-4 : tie.Need-slice-aggregate-show-on-4
+slice-aggregate-show-on-4 c = search needs
+
+show-on-requires : tie.Need-show-on-requires
+unfolding roomOf
+show-on-requires c κs = record { lent = record { starts = refl; ends = refl; room = refl }; fresh = (refl, refl); room = omega arith; counted = c .before .before .before .before .before .before .pre }
+
+returns : tie.Need-returns
+returns c = search needs
+
+pub show-spec : {M : Type 1} → statement M
+show-spec =
+    tie.close
+    (tie.spec
+    slice-aggregate-show-on
+    slice-aggregate-show-on-2
+    slice-aggregate-show-on-3
+    slice-aggregate-show-on-4
+    show-on-requires
+    returns)
