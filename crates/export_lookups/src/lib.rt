@@ -2,13 +2,22 @@
 // crate that has the rule, and answers by numbers; none asks anything of its caller. A slice passes as pointer and length, an
 // array of fixed length as its pointer alone.
 ghost use mathlib.Core.Path.{_≡_};
+ghost use mathlib.Core.List.{[], _∷_};
+ghost use lib.ListN.{length};
 ghost use Rattle.scope_table.specs.Lent.{lent};
 ghost use Rattle.scope_lookup.specs.Lookup.{resolvedNumbers, resolveOf};
 ghost use Rattle.scope_lookup.specs.declared.Resolved.the-variants as Found;
-ghost use Rattle.export_memory.specs.Boundary.{headIn, asked, askIn};
+ghost use Rattle.scope_listing.specs.Listing.{listing, bindingsOf, bindingsAtOf};
+ghost use Rattle.scope_listing.specs.declared.Listed.the-variants as Shown;
+ghost use Rattle.export_memory.specs.Boundary.{headIn, asked, askedOf, askIn};
+ghost use Rattle.export_lookups.specs.Listings.{listingNumbers};
 use export_memory::DETAIL;
 use export_memory::HEAD;
 use export_memory::WRONG;
+use scope_listing::Listing;
+
+// The numbers of a listing's detail.
+pub const LISTED: usize = 5;
 
 // What a name resolves to: `scope_lookup::resolve_in`. 0 Unbound, 1 Bound with the URI's bounds in the text, 2 Unknown with the
 // prefix's bounds in the name, 20, 99.
@@ -35,4 +44,72 @@ pub extern "C" fn mz_resolve<'t, 'n>(
     let h = export_memory::head_from(head);
     let found = scope_lookup::resolve_in(text, records, h, name, use_default);
     export_memory::tell(detail, scope_lookup::resolved_numbers(found))
+}
+
+// Writes what a listing shows, and gives its number.
+fn list(detail: &mut [usize], shown: Listing) -> usize
+    requires { ⌜ length (now detail) ≡ 5 ⌝ }
+    ensures { λ r. ⌜ asked r (now (detail .exit)) ≡ askedOf 5 (listingNumbers shown) ⌝ }
+{
+    let answer = shown.answer;
+    let five = scope_listing::listed_numbers(answer);
+    detail[0] = five.prefix_from;
+    detail[1] = five.prefix_to;
+    detail[2] = five.value_from;
+    detail[3] = five.value_to;
+    detail[4] = shown.place;
+    five.number
+}
+
+// The first binding in effect at or after a place: `scope_listing::bindings_in`. 0 the end, 1 a default, 2 a named one, with the
+// bounds of prefix and value in the text and the place to go on from; 20, 99.
+#[no_mangle]
+pub extern "C" fn mz_binding<'t>(
+    text: &'t [u8],
+    records: &'t [usize],
+    head: &'t [usize; 4],
+    place: usize,
+    detail: &mut [usize; 5],
+) -> usize
+    ensures { λ r.
+        ⌜ asked r (now (detail .exit))
+        ≡ askIn 5 (listingNumbers (lent (listing Shown.WrongLength place) (bindingsOf place) (now (text .entry)) (now (records .entry)) (headIn (now (head .entry)))))
+        (now (head .entry)) (now (detail .entry)) ⌝ }
+{
+    if !export_memory::has(head, HEAD) {
+        return WRONG;
+    }
+    if !export_memory::has(detail, LISTED) {
+        return WRONG;
+    }
+    let h = export_memory::head_from(head);
+    list(detail, scope_listing::bindings_in(text, records, h, place))
+}
+
+// The same of the bindings of one level: `scope_listing::bindings_of_in`.
+#[no_mangle]
+pub extern "C" fn mz_binding_of<'t>(
+    text: &'t [u8],
+    records: &'t [usize],
+    head: &'t [usize; 4],
+    level: u16,
+    place: usize,
+    detail: &mut [usize; 5],
+) -> usize
+    ensures { λ r.
+        ⌜ asked r (now (detail .exit))
+        ≡ askIn 5 (listingNumbers (lent (listing Shown.WrongLength place) (bindingsAtOf level place) (now (text .entry)) (now (records .entry)) (headIn (now (head .entry)))))
+        (now (head .entry)) (now (detail .entry)) ⌝ }
+{
+    if !export_memory::has(head, HEAD) {
+        return WRONG;
+    }
+    if !export_memory::has(detail, LISTED) {
+        return WRONG;
+    }
+    let h = export_memory::head_from(head);
+    list(
+        detail,
+        scope_listing::bindings_of_in(text, records, h, level, place),
+    )
 }
