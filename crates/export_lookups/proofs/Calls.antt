@@ -1,4 +1,4 @@
--- A listing's five numbers as they are written, and that all its lists of numbers have them.
+-- What is written of a listing is its numbers: an answer's four bounds, zeros where it has none, and then the place.
 use Prim.Native.Nat.{ℕ}
 use mathlib.Core.Path.{_≡_, refl, ap, _∙_}
 use mathlib.Core.List.{List, [], _∷_}

@@ -12,7 +12,7 @@ use Rattle.scan.specs.Lists.{over}
 use Rattle.scope_table.specs.declared.Told.{Told}
 use Rattle.export_names.specs.Names.{names, upTo, writtenOf}
 
-upto-length : (f : ℕ → ℕ) (n : ℕ) → length (upTo f n) ≡ n
+pub upto-length : (f : ℕ → ℕ) (n : ℕ) → length (upTo f n) ≡ n
 unfolding upTo
 upto-length f zero = refl
 upto-length f (suc n) =

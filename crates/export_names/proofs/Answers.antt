@@ -1,0 +1,69 @@
+-- What a call for all the names of a tag promises: none is left out, and each gets the numbers that a call for it alone gives.
+use Prim.Native.Nat.{ℕ, zero, suc, _+_, _≤_, _<_}
+use mathlib.Core.Path.{_≡_, refl, sym, ap, _∙_}
+use mathlib.Core.Bool.{true}
+use mathlib.Core.List.{List, [], _∷_, _++_}
+use mathlib.Core.Logic.{⊎-elim}
+use native.Mathlib.Nat.{eq-or-lt-of-le}
+use native.Mathlib.Omega.{arith}
+use lib.Dec.{ltb}
+use lib.ListN.{length, drop, getD, List·getD-append}
+use lib.Seq.{getD-at}
+use Rattle.scan.specs.Bytes.{inside}
+use Rattle.scan.specs.Lists.{over}
+use Rattle.scope_table.specs.Table.{validOf}
+use Rattle.scope_table.specs.Answer.{toldOf}
+use Rattle.scope_table.specs.declared.NamespaceResolver.{NamespaceResolver}
+use Rattle.scope_lookup.specs.Lookup.{resolvedNumbers, resolveOf}
+use Rattle.export_memory.specs.Boundary.{codeOf, detailOf, Asked, askedOf}
+use Rattle.export_memory.proofs.Calls.{told-two}
+use Rattle.export_names.specs.Names.{Names, upTo, nthOf, writtenOf, manyOf}
+use Rattle.export_names.proofs.Written.{upto-length}
+
+-- What is written at k.
+
+upto-at : (f : ℕ → ℕ) (n k : ℕ) → k < n → getD (upTo f n) k 0 ≡ f k
+unfolding upTo
+upto-at f zero k h = absurd (omega arith)
+upto-at f (suc n) k h =
+    let le : k ≤ n = omega arith in
+    ⊎-elim
+    (λ (e : k ≡ n). getD-at (upTo f n) (f n) [] 0 k (upto-length f n ∙ sym e) ∙ ap f (sym e))
+    (λ (l : k < n). List·getD-append (upTo f n) (f n ∷ []) 0 k (omega (arith, upto-length f n)) ∙ upto-at f n k l)
+    (eq-or-lt-of-le le)
+
+written-at : (d : List ℕ) (f : ℕ → ℕ) (n k : ℕ) → k < n → getD (over d 0 (upTo f n)) k 0 ≡ f k
+unfolding over
+written-at d f n k h =
+    List·getD-append (upTo f n) (drop (0 + length (upTo f n)) d) 0 k (omega (arith, upto-length f n)) ∙ upto-at f n k h
+
+two-told : (l : List ℕ) → toldOf l .first ∷ toldOf l .second ∷ [] ≡ detailOf 2 l
+unfolding askedOf
+two-told l = ap (λ (a : Asked). a .detail) (told-two l)
+
+module _ (x : NamespaceResolver) (good : validOf x ≡ true) (tag from to : List ℕ) (elements : ℕ) (kinds begins ends : List ℕ) where
+  abbrev after : Names
+  after = manyOf tag from to elements kinds begins ends x
+
+  -- what a call for name k alone answers
+  abbrev alone : ℕ → List ℕ
+  alone k = resolvedNumbers (resolveOf (inside tag (getD from k 0) (getD to k 0)) (ltb k elements) x)
+
+  pub names-answered : after .result ≡ 0
+  unfolding manyOf writtenOf
+  names-answered = rw good
+
+  pub kind-as-alone : (k : ℕ) → k < length from → getD (after .kinds) k 0 ≡ codeOf (alone k)
+  unfolding manyOf writtenOf nthOf codeOf
+  kind-as-alone k h = rw good (written-at kinds (λ i. nthOf tag from to elements x i .number) (length from) k h)
+
+  begin-at : (k : ℕ) → k < length from → getD (after .begins) k 0 ≡ toldOf (alone k) .first
+  unfolding manyOf writtenOf nthOf
+  begin-at k h = rw good (written-at begins (λ i. nthOf tag from to elements x i .first) (length from) k h)
+
+  end-at : (k : ℕ) → k < length from → getD (after .ends) k 0 ≡ toldOf (alone k) .second
+  unfolding manyOf writtenOf nthOf
+  end-at k h = rw good (written-at ends (λ i. nthOf tag from to elements x i .second) (length from) k h)
+
+  pub bounds-as-alone : (k : ℕ) → k < length from → getD (after .begins) k 0 ∷ getD (after .ends) k 0 ∷ [] ≡ detailOf 2 (alone k)
+  bounds-as-alone k h = rw (begin-at k h, end-at k h) (two-told (alone k))
