@@ -1,11 +1,11 @@
 //! Times the library's iterator against the crate's own: one process, the same tags, XML mode, both
 //! built for release.
 //!
-//! Four ways to read a whole tag take turns, a short round each, and of all its rounds each way's
+//! Three ways to read a whole tag take turns, a short round each, and of all its rounds each way's
 //! fastest counts: another program on the machine can slow a round down, and nothing can make one
 //! faster. For the crate the faster of two ways is taken, its public `Attributes` and the private
 //! `IterState` below it. The library's batch is lent the same tables for every tag; they are not
-//! cleared in between. Its `next` hands the whole state over by value at each step.
+//! cleared in between.
 //!
 //! Usage: `iterator [--check] [--markdown]`, or `iterator --plot` for the figures that benchmark/plot
 //! draws. Status 1 where the ways differ in how many answers a tag has or, with `--check`, where a ratio
@@ -15,7 +15,7 @@
 mod library;
 mod turns;
 
-use library::{mz_count_by_next, mz_read_batch};
+use library::mz_read_batch;
 use oracle::steps::{count_by_attributes, count_by_state};
 use std::hint::black_box;
 use std::process::ExitCode;
@@ -35,9 +35,10 @@ struct Lent {
 impl Lent {
     fn read(&mut self, tag: &[u8], checks: bool) -> usize {
         // The place next, at 0, and no recorded key.
-        let mut state = [1, 0, 0];
-        // SAFETY: each pointer is that of a live array or slice of the stated length; the tag is only
-        // read, and the four that are written are borrowed mutably and apart from each other.
+        let mut state = [1, 0, 0, 0];
+        // SAFETY: each pointer is that of a live array or slice of the stated length, or of the four numbers
+        // of a state; the tag is only read, and the four that are written are borrowed mutably and apart
+        // from each other.
         let count = unsafe {
             mz_read_batch(
                 tag.as_ptr(),
@@ -47,7 +48,6 @@ impl Lent {
                 self.ends.as_mut_ptr(),
                 KEYS,
                 state.as_mut_ptr(),
-                state.len(),
                 false,
                 checks,
                 self.out.as_mut_ptr(),
@@ -57,11 +57,6 @@ impl Lent {
         black_box(&self.out);
         count
     }
-}
-
-fn read_by_next(tag: &[u8], checks: bool) -> usize {
-    // SAFETY: the pointer and the length are those of one slice, which the call only reads.
-    unsafe { mz_count_by_next(tag.as_ptr(), tag.len(), false, checks) }
 }
 
 /// A tag, and the least ratio that the batch is wanted to have with checks on and with checks off.
@@ -121,7 +116,6 @@ struct Row {
     answers: usize,
     by_crate: f64,
     batch: f64,
-    next: f64,
     wanted: Option<f64>,
 }
 
@@ -129,10 +123,6 @@ impl Row {
     /// How many times the crate's speed the batch has.
     fn batch_ratio(&self) -> f64 {
         self.by_crate / self.batch
-    }
-
-    fn next_ratio(&self) -> f64 {
-        self.by_crate / self.next
     }
 
     const fn checks_shown(&self) -> &'static str {
@@ -164,62 +154,55 @@ fn measure(case: &Case, checks: bool) -> Result<Row, String> {
     let mut attributes = || count_by_attributes(black_box(text), false, checks);
     let mut state = || count_by_state(black_box(tag), false, checks);
     let mut batch = || lent.read(black_box(tag), checks);
-    let mut next = || read_by_next(black_box(tag), checks);
-    let counts = [attributes(), state(), batch(), next()];
+    let counts = [attributes(), state(), batch()];
     let answers = counts[0];
     if counts.iter().any(|&count| count != answers) {
         return Err(format!(
-            "{}: Attributes, IterState, batch and next give {counts:?} answers",
+            "{}: Attributes, IterState and batch give {counts:?} answers",
             case.name
         ));
     }
-    let [attributes, state, batch, next] =
-        fastest([&mut attributes, &mut state, &mut batch, &mut next]);
+    let [attributes, state, batch] = fastest([&mut attributes, &mut state, &mut batch]);
     Ok(Row {
         name: case.name.clone(),
         checks,
         answers,
         by_crate: attributes.min(state),
         batch,
-        next,
         wanted: case.wanted[usize::from(!checks)],
     })
 }
 
 fn print_plain(rows: &[Row]) {
     println!(
-        "{:36} {:6} {:>7} {:>8} {:>8} {:>6} {:>8} {:>6}",
-        "ns a tag", "checks", "answers", "crate", "batch", "ratio", "next", "ratio"
+        "{:36} {:6} {:>7} {:>8} {:>8} {:>6}",
+        "ns a tag", "checks", "answers", "crate", "batch", "ratio"
     );
     for row in rows {
         println!(
-            "{:36} {:6} {:>7} {:>8} {:>8} {:>6.2} {:>8} {:>6.2}",
+            "{:36} {:6} {:>7} {:>8} {:>8} {:>6.2}",
             row.name,
             row.checks_shown(),
             row.answers,
             shown(row.by_crate),
             shown(row.batch),
-            row.batch_ratio(),
-            shown(row.next),
-            row.next_ratio()
+            row.batch_ratio()
         );
     }
 }
 
 fn print_markdown(rows: &[Row]) {
-    println!("| ns a tag | Checks | Answers | Crate | Batch | Ratio | `next` | Ratio |");
-    println!("|---|---|--:|--:|--:|--:|--:|--:|");
+    println!("| ns a tag | Checks | Answers | Crate | Batch | Ratio |");
+    println!("|---|---|--:|--:|--:|--:|");
     for row in rows {
         println!(
-            "| {} | {} | {} | {} | {} | {:.2} | {} | {:.2} |",
+            "| {} | {} | {} | {} | {} | {:.2} |",
             row.name,
             row.checks_shown(),
             row.answers,
             shown(row.by_crate),
             shown(row.batch),
-            row.batch_ratio(),
-            shown(row.next),
-            row.next_ratio()
+            row.batch_ratio()
         );
     }
 }

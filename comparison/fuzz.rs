@@ -11,10 +11,14 @@
 //! refusal that quick-xml doesn't have, and that one has to be due: a 257th key, a 1,027th record, more
 //! text than a resolver has room for.
 //!
+//! The calls are made once more in memory that is lent, little of it at first and more when that is full: they have
+//! to answer as in memory of the resolver's own.
+//!
 //! With `--cfg libfuzzer` this is the function that libFuzzer calls; else a program that draws its inputs,
 //! `fuzz SECONDS`. Either ends with status 1 at a difference, and shows the input.
 
 use mezzulidda::events::attributes::{Attr, AttrError, ByteAttributes, Tables};
+use mezzulidda::name::{Lent, NamespaceResolver};
 use oracle::scopes;
 use oracle::steps::Reader;
 use std::fmt::Debug;
@@ -34,11 +38,13 @@ type Compared = Result<(), String>;
 struct Input {
     html: bool,
     checks: bool,
-    /// Whether the reader's memory is lent to it, and another tag was read there before.
+    /// Whether memory is lent: the reader's, in which another tag was read before, and the resolver's.
     lent: bool,
     /// Before which steps checks are turned to the other setting, a bit for each of eight.
     turns: u8,
     position: usize,
+    /// So many bytes are lent for a resolver at first.
+    bytes: usize,
     tag: Vec<u8>,
     calls: Vec<Call>,
 }
@@ -51,6 +57,7 @@ impl Input {
             Some(cut) => (&rest[..cut], &rest[cut + 2..]),
             None => (rest, &[][..]),
         };
+        let bytes = Lent::LEAST + 3 * usize::from(numbered);
         // attributes of different names stand first, up to 510, if that is flagged
         let numbered = match flags & 24 {
             24 => 2 * usize::from(numbered),
@@ -64,6 +71,7 @@ impl Input {
             lent: flags & 4 != 0,
             turns,
             position: position_of(u16::from_le_bytes([low, high]), tag.len()),
+            bytes,
             tag,
             calls: calls.split(|&b| b == 0xff).filter_map(Call::of).collect(),
         })
@@ -176,15 +184,17 @@ macro_rules! answers {
     }};
 }
 
-// The calls, once for both crates: their types have the same names and are not the same.
+// The calls, once for both crates, whose types have the same names and are not the same, and for memory that is
+// lent.
 macro_rules! calls_on {
-    ($module:ident, $name:ident) => {
+    ($module:ident, $name:ident, $resolver:ty) => {
         mod $module {
             use super::{Call, Input, shown};
             use $name::events::BytesStart;
             use $name::events::attributes::Attributes;
-            use $name::name::{Namespace, NamespaceResolver, PrefixDeclaration, QName};
+            use $name::name::{Namespace, PrefixDeclaration, QName};
 
+            #[allow(dead_code, reason = "where memory is lent only calls are made")]
             pub fn read(input: &Input, tag: &str, position: usize) -> Vec<String> {
                 match input.html {
                     true => answers!(Attributes::html(tag, position), input),
@@ -193,7 +203,7 @@ macro_rules! calls_on {
             }
 
             /// The answer to a call.
-            pub fn call(resolver: &mut NamespaceResolver, call: &Call) -> String {
+            pub fn call(resolver: &mut $resolver, call: &Call) -> String {
                 match call {
                     Call::Pop => shown(resolver.pop()),
                     Call::SetLevel(level) => shown(resolver.set_level(*level)),
@@ -220,12 +230,12 @@ macro_rules! calls_on {
             }
 
             /// The level and the limit.
-            pub fn state(resolver: &NamespaceResolver) -> (u16, usize) {
+            pub fn state(resolver: &$resolver) -> (u16, usize) {
                 (resolver.level(), resolver.max_namespace_bindings())
             }
 
             /// All that is told about a name.
-            fn about(resolver: &NamespaceResolver, name: &str) -> String {
+            fn about(resolver: &$resolver, name: &str) -> String {
                 let name = QName(name);
                 let reserved = name.prefix().map(|p| (p.is_xml(), p.is_xmlns()));
                 let parts = (name.decompose(), name.local_name());
@@ -241,8 +251,13 @@ macro_rules! calls_on {
         }
     };
 }
-calls_on!(by_ours, mezzulidda);
-calls_on!(by_quick_xml, oracle);
+calls_on!(by_ours, mezzulidda, super::NamespaceResolver);
+calls_on!(
+    by_lent,
+    mezzulidda,
+    super::NamespaceResolver<super::Lent<'_>>
+);
+calls_on!(by_quick_xml, oracle, oracle::NamespaceResolver);
 
 /// The crate's answers by `Attributes::with_tables`, in memory that another tag was read in.
 fn read_in_lent_memory(input: &Input, tag: &str, position: usize) -> Vec<String> {
@@ -342,7 +357,7 @@ fn compare_bytes(input: &Input) -> Compared {
 fn compare_calls(input: &Input) -> Compared {
     // the bindings are listed at the end of all calls, whatever they are
     let calls = input.calls.iter().chain([&Call::Bindings]);
-    let mut ours = mezzulidda::name::NamespaceResolver::default();
+    let mut ours = NamespaceResolver::default();
     let mut theirs = oracle::NamespaceResolver::default();
     for call in calls {
         let answer = by_ours::call(&mut ours, call);
@@ -370,6 +385,71 @@ fn compare_calls(input: &Input) -> Compared {
     Ok(())
 }
 
+/// Bytes at an address that numbers can stand at.
+#[repr(align(8))]
+struct Bytes([u8; Lent::MOST]);
+
+impl Bytes {
+    fn new() -> Box<Self> {
+        Box::new(Bytes([0x5a; Lent::MOST]))
+    }
+
+    fn lend(&mut self, bytes: usize) -> Lent<'_> {
+        Lent::from_bytes(&mut self.0[..bytes]).expect("so many bytes are a resolver's memory")
+    }
+
+    fn resume(&mut self, bytes: usize) -> Result<NamespaceResolver<Lent<'_>>, String> {
+        let resumed = NamespaceResolver::resume_in(self.lend(bytes));
+        resumed.map_err(|refused| format!("what a call left in {bytes} bytes: {refused}"))
+    }
+}
+
+/// A call in lent memory, with more of it where there is too little; that changes nothing.
+fn call_lent(
+    [now, next]: &mut [Box<Bytes>; 2],
+    bytes: &mut usize,
+    call: &Call,
+) -> Result<(String, (u16, usize)), String> {
+    loop {
+        let mut resolver = now.resume(*bytes)?;
+        let before = shown(&resolver);
+        let answer = by_lent::call(&mut resolver, call);
+        if !answer.starts_with("Err(LentMemoryFull") {
+            return Ok((answer, by_lent::state(&resolver)));
+        }
+        let after = shown(&resolver);
+        if after != before || *bytes == Lent::MOST {
+            return Err(format!(
+                "{call:?} in {bytes} bytes: {answer}, from {before} to {after}"
+            ));
+        }
+        *bytes = Lent::MOST.min(*bytes + *bytes / 4);
+        let copied = resolver.copy_in(next.lend(*bytes)).map(|copy| shown(&copy));
+        if copied != Ok(before) {
+            return Err(format!("a copy in {bytes} bytes: {copied:?} of {after}"));
+        }
+        std::mem::swap(now, next);
+    }
+}
+
+/// The calls in memory of the resolver's own and in memory that is lent.
+fn compare_memory(input: &Input) -> Compared {
+    let mut own = NamespaceResolver::default();
+    let mut memory = [Bytes::new(), Bytes::new()];
+    let mut bytes = input.bytes;
+    NamespaceResolver::new_in(memory[0].lend(bytes));
+    for call in input.calls.iter().chain([&Call::Bindings]) {
+        let wanted = (by_ours::call(&mut own, call), by_ours::state(&own));
+        let answer = call_lent(&mut memory, &mut bytes, call)?;
+        if answer != wanted {
+            return Err(format!(
+                "{call:?} in {bytes} bytes that are lent: {answer:?}, in its own {wanted:?}"
+            ));
+        }
+    }
+    Ok(())
+}
+
 fn compare(bytes: &[u8]) -> Compared {
     let Some(input) = Input::of(bytes) else {
         return Ok(());
@@ -379,7 +459,11 @@ fn compare(bytes: &[u8]) -> Compared {
     if input.calls.is_empty() {
         return Ok(());
     }
-    compare_calls(&input)
+    compare_calls(&input)?;
+    match input.lent {
+        true => compare_memory(&input),
+        false => Ok(()),
+    }
 }
 
 /// Compares, and says what differs; a panic is a difference too. Whether there is none.

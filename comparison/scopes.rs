@@ -12,8 +12,10 @@
 //! are left, key places that are not in use, and the resolver, which is as it was. 7, 20 and, where 257 keys
 //! are recorded, 6 are decided here.
 //!
-//! Not compared: numbers of the detail that an answer doesn't have, and a level above 65,535, which
-//! the crate can't hold.
+//! Memory may be lent shorter than its capacity: it is the resolver whose missing places are unused and zero. So
+//! a call on short memory is held against the same call on full memory, which the crate decides: the same answer
+//! where what it leaves is held, else 98 and nothing changed; and 99 where what is in use is not lent, or more
+//! than the capacity is.
 //!
 //! Usage: `scopes [--short | --whole]`. Status 0 and counts where all agrees, status 1 and the first difference
 //! with the calls that led to it where it doesn't.
@@ -35,12 +37,17 @@ mod library;
 #[path = "scopes/nil.rs"]
 mod nil;
 mod parts;
+#[path = "scopes/short.rs"]
+mod short;
 
 use cases::Lcg;
 use declarations::{PREFIXES, Tags, VALUES, XML_URI, XMLNS_URI};
 use drawn::{FILLING, MIXED, NAMES, Shape, change, drawn_call};
 use due::{RECORDS, Shown, TEXT, Wanted, listing, resolved_wanted};
-use lent::{BUILT_IN, BUILT_IN_TEXT, Call, DEEPEST, LIMIT, Scope, UNTOUCHED, WRONG_LENGTH, cut};
+use lent::{
+    BUILT_IN, BUILT_IN_TEXT, Call, DEEPEST, LIMIT, NUMBERS, ROW, Scope, UNTOUCHED, WRONG_LENGTH,
+    cut,
+};
 use nil::{Cursor, INSTANCE, KEYS, Tag};
 use oracle::scopes;
 use oracle::steps::Reader;
@@ -62,13 +69,19 @@ struct Tally {
     listed: usize,
     searches: usize,
     yes: usize,
+    short: usize,
+    full: usize,
+    bad: usize,
+    lend_more: usize,
+    wrong_length: usize,
 }
 
 impl Counts for Tally {
     fn line(&self, what: &str) -> String {
         format!(
             "{what}: {} runs, {} calls compared ({} refused, {} by an added refusal), {} names \
-             resolved ({} of them refusal 11), {} bindings listed, {} searches for nil ({} of them a yes)",
+             resolved ({} of them refusal 11), {} bindings listed, {} searches for nil ({} of them a yes), \
+             {} calls on memory of other lengths ({} of them 18 or 19, {} 20, {} 98, {} 99)",
             self.runs,
             self.calls,
             self.refusals,
@@ -77,7 +90,12 @@ impl Counts for Tally {
             self.unknown,
             self.listed,
             self.searches,
-            self.yes
+            self.yes,
+            self.short,
+            self.full,
+            self.bad,
+            self.lend_more,
+            self.wrong_length
         )
     }
 
@@ -91,10 +109,15 @@ impl Counts for Tally {
         self.listed += other.listed;
         self.searches += other.searches;
         self.yes += other.yes;
+        self.short += other.short;
+        self.full += other.full;
+        self.bad += other.bad;
+        self.lend_more += other.lend_more;
+        self.wrong_length += other.wrong_length;
     }
 
     fn reached(&self) -> String {
-        format!("{} calls", self.calls)
+        format!("{} calls", self.calls + self.short)
     }
 }
 
@@ -146,15 +169,14 @@ impl<'t> Pair<'t> {
     fn ask(&mut self, call: &Call, wanted: &Wanted) -> Result<(), String> {
         let mut detail = vec![UNTOUCHED; call.detail_len()];
         let code = call.ours(&mut self.ours, &mut detail);
-        let numbers = detail.get(..wanted.detail.len()).unwrap_or_default();
-        if code == wanted.code && numbers == wanted.detail {
+        let due = call.detail_of(wanted.code, &wanted.detail);
+        if code == wanted.code && detail == due {
             return Ok(());
         }
         Err(self.error(&format!(
-            "{}: ours {code} {numbers:?}, wanted {} {:?}",
+            "{}: ours {code} {detail:?}, wanted {} {due:?}",
             call.shown(),
-            wanted.code,
-            wanted.detail
+            wanted.code
         )))
     }
 
@@ -404,6 +426,7 @@ struct Extent {
     filled: usize,
     bad: usize,
     nils: usize,
+    short: usize,
 }
 
 const SHORT: Extent = Extent {
@@ -412,6 +435,7 @@ const SHORT: Extent = Extent {
     filled: 0,
     bad: 40,
     nils: 6,
+    short: 2,
 };
 const BOUNDED: Extent = Extent {
     every_part: true,
@@ -419,6 +443,7 @@ const BOUNDED: Extent = Extent {
     filled: 6,
     bad: 4_000,
     nils: 400,
+    short: 72,
 };
 const WHOLE: Extent = Extent {
     every_part: true,
@@ -426,6 +451,7 @@ const WHOLE: Extent = Extent {
     filled: 80,
     bad: 60_000,
     nils: 8_000,
+    short: 2_400,
 };
 
 /// The rows of document 01 that speak of a resolver, with the numbers they state.
@@ -622,23 +648,18 @@ fn call_of_each_kind() -> Vec<Call> {
     ]
 }
 
-/// A call that has to answer `code` and to leave the resolver alone. With 20 a listing tells the place that
-/// was asked.
-fn hold_unwritten(scope: &Scope, call: &Call, code: usize, detail: usize) -> Result<(), String> {
+/// A call that has to answer `code` and to leave the resolver alone.
+fn hold_unwritten(scope: &Scope, call: &Call, code: usize) -> Result<(), String> {
     let mut ours = scope.clone();
-    let mut numbers = vec![UNTOUCHED; detail];
-    let got = call.ours(&mut ours, &mut numbers);
-    if let (20, Call::Binding(place) | Call::BindingOf(_, place)) = (got, call) {
-        if numbers != [0, 0, 0, 0, *place] {
-            return Err(format!("{}: ours 20 {numbers:?}", call.shown()));
-        }
-    }
-    if got == code && ours == *scope {
+    let mut detail = vec![UNTOUCHED; call.detail_len()];
+    let got = call.ours(&mut ours, &mut detail);
+    let due = call.detail_of(code, &[]);
+    if got == code && ours == *scope && detail == due {
         return Ok(());
     }
     let written = if ours == *scope { "" } else { ", and wrote" };
     Err(format!(
-        "{}: ours {got}{written}, wanted {code}",
+        "{}: ours {got} {detail:?}{written}, wanted {code} {due:?}",
         call.shown()
     ))
 }
@@ -664,49 +685,70 @@ fn hold_search_unwritten(
     ))
 }
 
-/// One place more, or one fewer.
-fn resize<T: Clone + Default>(array: &mut Vec<T>, longer: bool) {
-    let len = if longer {
-        array.len() + 1
-    } else {
-        array.len() - 1
-    };
-    array.resize(len, T::default());
-}
-
-/// The head and the detail, and the iterator's arrays for a search, one shorter and one longer than they
-/// have to be. The resolver's five arrays are passed without a length.
+/// Text and records that are shorter than what is in use, and longer than the capacity; key tables that are
+/// longer than theirs; and names whose arrays have not all the same length.
 fn wrong_lengths(_: &Extent, tally: &mut Tally) -> Result<(), String> {
     let mut pair = Pair::fresh(SEED + 5, tally)?;
     pair.make(Call::push("xmlns='u' xmlns:p='v'"))?;
     let good = pair.ours.clone();
-    let mut calls = call_of_each_kind();
-    calls.push(Call::Fresh);
-    for call in &calls {
-        let (head, detail) = (good.head.len(), call.detail_len());
-        let mut wrong = vec![(head - 1, detail), (head + 1, detail)];
-        if detail > 0 {
-            wrong.extend([(head, detail - 1), (head, detail + 1)]);
+    let (used, count) = (good.head[0], good.head[1]);
+    let shorter = [
+        (used - 1, NUMBERS),
+        (0, NUMBERS),
+        (TEXT, ROW * count - 1),
+        (TEXT, 0),
+        (used - 1, ROW * count - 1),
+        (0, 0),
+    ];
+    let longer = [
+        (TEXT + 1, NUMBERS),
+        (TEXT, NUMBERS + 1),
+        (used, NUMBERS + 1),
+    ];
+    for (text, numbers) in shorter.into_iter().chain(longer) {
+        let scope = good.with_lengths(text, numbers);
+        let mut calls = call_of_each_kind();
+        if longer.contains(&(text, numbers)) {
+            calls.push(Call::Fresh);
         }
-        for (head, detail) in wrong {
-            let mut scope = good.clone();
-            scope.head.resize(head, 0);
-            hold_unwritten(&scope, call, WRONG_LENGTH, detail).map_err(|difference| {
-                format!("head of {head}, detail of {detail}: {difference}")
-            })?;
-            tally.calls += 1;
+        for call in &calls {
+            hold_unwritten(&scope, call, WRONG_LENGTH)
+                .map_err(|e| format!("text of {text}, records of {numbers} numbers: {e}"))?;
+            tally.short += 1;
+            tally.wrong_length += 1;
+        }
+        for position in [0, 99] {
+            hold_search_unwritten(&scope, &Cursor::at([2, position], &[]), WRONG_LENGTH, tally)?;
         }
     }
-    for (array, longer) in (0..4).flat_map(|array| [(array, false), (array, true)]) {
+    for (starts, ends) in [
+        (KEYS + 1, KEYS),
+        (KEYS, KEYS + 1),
+        (0, KEYS + 1),
+        (1_000, 1_000),
+    ] {
         for position in [0, 99] {
-            let (mut scope, mut cursor) = (good.clone(), Cursor::at([2, position], &[]));
-            match array {
-                0 => resize(&mut cursor.starts, longer),
-                1 => resize(&mut cursor.ends, longer),
-                2 => resize(&mut cursor.numbers, longer),
-                _ => resize(&mut scope.head, longer),
-            }
-            hold_search_unwritten(&scope, &cursor, WRONG_LENGTH, tally)?;
+            let cursor = Cursor::at([2, position], &[]).with_places(starts, ends);
+            hold_search_unwritten(&good, &cursor, WRONG_LENGTH, tally)?;
+        }
+    }
+    names_of_other_lengths(&good, tally)
+}
+
+/// Five arrays of up to three elements each.
+fn names_of_other_lengths(good: &Scope, tally: &mut Tally) -> Result<(), String> {
+    for number in 0..4usize.pow(5) {
+        let lens = [0, 1, 2, 3, 4].map(|place| number / 4usize.pow(place) % 4);
+        let equal = lens.iter().all(|len| *len == lens[0]);
+        let due = if equal { 0 } else { WRONG_LENGTH };
+        let mut scope = good.clone();
+        let got = lent::resolve_all_of(&mut scope, lens);
+        tally.short += 1;
+        tally.wrong_length += usize::from(!equal);
+        if got != due || scope != *good {
+            return Err(format!(
+                "names with arrays of {lens:?}: ours {got}, wanted {due}"
+            ));
         }
     }
     Ok(())
@@ -743,7 +785,8 @@ fn hold_nil_anywhere(pair: &mut Pair, text: &str, lcg: &mut Lcg) -> Result<(), S
         let (place, keys) = nil::drawn_state(lcg, text);
         let mut ours = Cursor::at(place.numbers(), &keys);
         if nil::is_bad(text, place, &keys) {
-            pair.hold_found(tag, &mut ours, 7, &Cursor::zeroed())?;
+            let wanted = ours.zeroed();
+            pair.hold_found(tag, &mut ours, 7, &wanted)?;
             continue;
         }
         let from = Reader::from_state(text.as_bytes(), place, tag.html, tag.checks, &keys);
@@ -771,11 +814,26 @@ fn nil_rows(tally: &mut Tally) -> Result<(), String> {
         }
         (0..KEYS).for_each(|_| drop(theirs.step()));
         let mut wanted = ours.gone_on(&theirs);
-        wanted.numbers = vec![0, 0, KEYS];
+        wanted.numbers[..3].copy_from_slice(&[0, 0, KEYS]);
         pair.hold_found(tag, &mut ours, 0, &wanted)?;
-        for numbers in [[1, 0, KEYS + 1], [4, 0, 0], [usize::MAX, 0, usize::MAX]] {
-            ours.numbers = numbers.to_vec();
-            pair.hold_found(tag, &mut ours, 7, &Cursor::zeroed())?;
+        for numbers in [
+            [1, 0, KEYS + 1],
+            [1, 0, usize::MAX],
+            [4, 0, 0],
+            [5, 0, 1],
+            [usize::MAX, 0, usize::MAX],
+            [2, usize::MAX, 0],
+            [3, usize::MAX, 0],
+        ] {
+            ours.numbers[..3].copy_from_slice(&numbers);
+            let wanted = ours.zeroed();
+            pair.hold_found(tag, &mut ours, 7, &wanted)?;
+        }
+        // a position beside done says nothing, and stays
+        for position in [0, 1, text.len(), usize::MAX] {
+            ours.numbers[..3].copy_from_slice(&[0, position, 0]);
+            let wanted = ours.clone();
+            pair.hold_found(tag, &mut ours, 0, &wanted)?;
         }
     }
     pair.hold_state()
@@ -888,9 +946,9 @@ fn hold_bad(scope: &Scope, tally: &mut Tally) -> Result<(), String> {
         tally.calls += 1;
         tally.refusals += 1;
         tally.added += 1;
-        hold_unwritten(scope, &call, 20, call.detail_len()).map_err(|difference| {
+        hold_unwritten(scope, &call, 20).map_err(|difference| {
             let [used, count, level, limit] = [0, 1, 2, 3].map(|index| scope.head[index]);
-            let records: Vec<_> = (0..count.clamp(3, 9)).map(|i| scope.record(i)).collect();
+            let records: Vec<_> = (0..count.clamp(3, 9)).map(|i| scope.row(i)).collect();
             format!(
                 "{difference}\n  on a resolver that is not of document 01's form: text used {used}, \
                  {count} records, level {level}, limit {limit}, the first records {records:?}"
@@ -900,7 +958,7 @@ fn hold_bad(scope: &Scope, tally: &mut Tally) -> Result<(), String> {
     Ok(())
 }
 
-const PARTS: [(&str, Part<Extent, Tally>); 10] = [
+const PARTS: [(&str, Part<Extent, Tally>); 11] = [
     ("document 01's rows", stated_rows),
     ("limits", limits),
     ("depth", depth),
@@ -911,6 +969,7 @@ const PARTS: [(&str, Part<Extent, Tally>); 10] = [
     ("drawn calls", drawn),
     ("filled tables", filled),
     ("changed by hand", changed_by_hand),
+    ("short memory", short::short_memory),
 ];
 
 const MOST_CALLS: [&str; 5] = [

@@ -7,9 +7,13 @@
 //! added refusals are decided here by its sentences: 7 from the state that is given, 6 where the
 //! crate records a 257th key. A run is compared up to the first of them.
 //!
-//! Compared too: key places that are not in use keep their content (7 leaves zeros), and numbers of
-//! the output behind the last answer are not written. Not compared: the position beside `done`, which
-//! says nothing, and a kind of place above 3, which document 01 doesn't know.
+//! Compared too: why reading stopped; key places that are not in use keep their content (7 leaves zeros);
+//! numbers of the output behind the last answer are not written, and nothing at all is where it has no room for
+//! one; a position beside `done`, which says nothing, stays; a kind of place above 3 is a bad state.
+//!
+//! Key tables may be shorter than the capacity: with each number of places, from none to all, the answers are
+//! those with all of them up to the first key that has no place, where reading stops before it, says so, and goes
+//! on with longer tables as if they had been there from the start.
 //!
 //! Usage: `tags [--short | --whole]`. Status 0 and counts where all agrees, status 1 and the first difference
 //! where it doesn't.
@@ -42,6 +46,7 @@ struct Extent {
     states_up_to: u32,
     drawn_states: usize,
     drawn_long: usize,
+    few_places: usize,
 }
 
 const SHORT: Extent = Extent {
@@ -50,6 +55,7 @@ const SHORT: Extent = Extent {
     states_up_to: 0,
     drawn_states: 4,
     drawn_long: 8,
+    few_places: 20,
 };
 const BOUNDED: Extent = Extent {
     every_up_to: 4,
@@ -57,6 +63,7 @@ const BOUNDED: Extent = Extent {
     states_up_to: 2,
     drawn_states: 500,
     drawn_long: 4_000,
+    few_places: 3_000,
 };
 const WHOLE: Extent = Extent {
     every_up_to: 6,
@@ -64,6 +71,7 @@ const WHOLE: Extent = Extent {
     states_up_to: 3,
     drawn_states: 4_000,
     drawn_long: 40_000,
+    few_places: 40_000,
 };
 
 /// A tag with the mode and the checks it is read by.
@@ -96,22 +104,29 @@ impl<'t> Tag<'t> {
     }
 }
 
+/// Why a call stopped, a state's last number: the output is full, the tag has ended, or a key has no place.
+const OUT_FULL: usize = 0;
+const ENDED: usize = 1;
+const MORE_KEYS: usize = 2;
+/// The library's answer where a key table is longer than all keys that can be recorded.
+const NONE: usize = usize::MAX;
+
 /// The caller's own state that is lent to the library: the key tables, and the place's kind, its
-/// position, and the count of keys.
+/// position, the count of keys, and why the last call stopped.
 #[derive(Clone, PartialEq)]
 struct State {
-    starts: [usize; KEYS],
-    ends: [usize; KEYS],
-    numbers: [usize; 3],
+    starts: Vec<usize>,
+    ends: Vec<usize>,
+    numbers: [usize; 4],
 }
 
 impl State {
     fn at(place: Place, keys: &[Range<usize>]) -> Self {
         let [kind, at] = place.numbers();
         let mut state = State {
-            starts: [UNTOUCHED; KEYS],
-            ends: [UNTOUCHED; KEYS],
-            numbers: [kind, at, keys.len()],
+            starts: vec![UNTOUCHED; KEYS],
+            ends: vec![UNTOUCHED; KEYS],
+            numbers: [kind, at, keys.len(), UNTOUCHED],
         };
         for (index, key) in keys.iter().enumerate().take(KEYS) {
             state.starts[index] = key.start;
@@ -121,46 +136,53 @@ impl State {
     }
 
     /// Document 01's table for 7: done, no keys, every key place zero.
-    const fn zeroed() -> Self {
+    fn zeroed(&self) -> Self {
         State {
-            starts: [0; KEYS],
-            ends: [0; KEYS],
-            numbers: [0, 0, 0],
+            starts: vec![0; self.starts.len()],
+            ends: vec![0; self.ends.len()],
+            numbers: [0, 0, 0, self.numbers[3]],
         }
+    }
+
+    /// The same with tables of these lengths, and what stands in unused places behind.
+    fn with_places(&self, starts: usize, ends: usize) -> Self {
+        let mut state = self.clone();
+        state.starts.resize(starts, UNTOUCHED);
+        state.ends.resize(ends, UNTOUCHED);
+        // so that an access beyond them is one beyond what was allocated
+        state.starts.shrink_to_fit();
+        state.ends.shrink_to_fit();
+        state
     }
 
     /// The library's batch on this state: the number of answers that it wrote.
     fn read(&mut self, tag: Tag, out: &mut [usize]) -> usize {
-        // SAFETY: each pointer is that of a live array or slice of the stated length; the tag is
-        // only read, and the four that are written are borrowed mutably and apart from each other.
-        let count = unsafe {
+        // SAFETY: each pointer is that of a live array or slice of the stated length, or of the four numbers
+        // of a state; the tag is only read, and the four that are written are borrowed mutably and apart
+        // from each other.
+        unsafe {
             mz_read_batch(
                 tag.bytes.as_ptr(),
                 tag.bytes.len(),
                 self.starts.as_mut_ptr(),
-                KEYS,
+                self.starts.len(),
                 self.ends.as_mut_ptr(),
-                KEYS,
+                self.ends.len(),
                 self.numbers.as_mut_ptr(),
-                self.numbers.len(),
                 tag.html,
                 tag.checks,
                 out.as_mut_ptr(),
                 out.len(),
             )
-        };
-        if self.numbers[0] == 0 {
-            self.numbers[1] = 0;
         }
-        count
     }
 
     fn shown(&self) -> String {
-        let [kind, at, count] = self.numbers;
+        let [kind, at, count, why] = self.numbers;
         let kind = ["done", "next", "value", "eq"]
             .get(kind)
             .map_or(format!("kind {kind}"), |k| k.to_string());
-        let used = count.min(KEYS);
+        let used = count.min(self.starts.len()).min(self.ends.len());
         let keys = |indices: Range<usize>| -> String {
             let key = |index: usize| format!(" {}..{}", self.starts[index], self.ends[index]);
             indices.map(key).collect()
@@ -169,7 +191,8 @@ impl State {
             0..=8 => keys(0..used),
             _ => format!("{} ..{}", keys(0..2), keys(used - 4..used)),
         };
-        format!("{kind}:{at}, {count} keys{listed}")
+        let why = ["out full", "ended", "more keys"].get(why).unwrap_or(&"?");
+        format!("{kind}:{at}, {count} keys{listed}, stopped: {why}")
     }
 }
 
@@ -205,15 +228,23 @@ fn due(reader: &mut impl Crate, state: &mut State) -> Option<[usize; 5]> {
     let keys = reader.keys();
     if let Some(key) = keys.get(recorded) {
         if recorded == KEYS {
-            state.numbers = [0, 0, KEYS];
+            state.numbers = [0, 0, KEYS, OUT_FULL];
             return Some([6, key.start, 0, 0, 0]);
         }
         state.starts[recorded] = key.start;
         state.ends[recorded] = key.end;
     }
     let [kind, at] = reader.place();
-    state.numbers = [kind, at, keys.len()];
+    state.numbers = [kind, at, keys.len(), stopped(answer)];
     answer
+}
+
+/// Why a call with room for one answer stops.
+const fn stopped(answer: Option<[usize; 5]>) -> usize {
+    match answer {
+        Some(_) => OUT_FULL,
+        None => ENDED,
+    }
 }
 
 /// Document 01's state 7: a recorded key that is empty or not inside the tag, more than 256 keys, a
@@ -238,13 +269,15 @@ struct Tally {
     steps: usize,
     full: usize,
     bad: usize,
+    few_places: usize,
 }
 
 impl Counts for Tally {
     fn line(&self, what: &str) -> String {
         format!(
-            "{what}: {} tags, {} runs, {} steps compared ({} key tables full, {} bad states)",
-            self.tags, self.runs, self.steps, self.full, self.bad
+            "{what}: {} tags, {} runs, {} steps compared ({} key tables full, {} bad states), {} stops before a \
+             key without a place",
+            self.tags, self.runs, self.steps, self.full, self.bad, self.few_places
         )
     }
 
@@ -254,6 +287,7 @@ impl Counts for Tally {
         self.steps += other.steps;
         self.full += other.full;
         self.bad += other.bad;
+        self.few_places += other.few_places;
     }
 
     fn reached(&self) -> String {
@@ -360,12 +394,19 @@ fn hold_batches(
                 tag.shown()
             ));
         }
+        let why = if count < room { ENDED } else { OUT_FULL };
+        if ours.numbers[3] != why {
+            let shown = ours.shown();
+            return Err(format!("{} in batches of {room}: {shown}", tag.shown()));
+        }
         read.extend_from_slice(written);
         // More answers than are due: no need to wait for an end.
         if count < room || read.len() > answers.len() {
             break;
         }
     }
+    // a refusal 6 leaves no end, which the last batch may or may not have met
+    ours.numbers[3] = left.numbers[3];
     if read == answers && ours == *left {
         return Ok(());
     }
@@ -473,7 +514,8 @@ fn hold_state(
     let mut wanted = ours.clone();
     let answer = if is_bad(tag.bytes, place, keys) {
         tally.bad += 1;
-        wanted = State::zeroed();
+        wanted = wanted.zeroed();
+        wanted.numbers[3] = OUT_FULL;
         Some([7, 0, 0, 0, 0])
     } else {
         let mut reader = Reader::from_state(tag.bytes, place, tag.html, tag.checks, keys)
@@ -483,17 +525,52 @@ fn hold_state(
     tally.full += usize::from(matches!(answer, Some([6, ..])));
     tally.runs += 1;
     tally.steps += 1;
+    hold_without_room(tag, &ours, tally.runs)?;
     hold_step(tag, &mut ours, &wanted, answer)
 }
 
-/// More keys than any table holds, by the count alone.
-fn hold_overcount(tag: Tag, place: Place, tally: &mut Tally) -> Result<(), String> {
-    let mut ours = State::at(place, &[]);
-    ours.numbers[2] = usize::MAX;
-    tally.bad += 1;
+/// Where there is room for no answer nothing is written, whatever the state is.
+fn hold_without_room(tag: Tag, state: &State, varied: usize) -> Result<(), String> {
+    let mut ours = state.clone();
+    let mut out = [UNTOUCHED; 4];
+    let count = ours.read(tag, &mut out[..varied % 5]);
+    if count == 0 && ours == *state && out == [UNTOUCHED; 4] {
+        return Ok(());
+    }
+    Err(format!(
+        "{} without room for an answer: {count} answers, from {} to {}",
+        tag.shown(),
+        state.shown(),
+        ours.shown()
+    ))
+}
+
+/// States by hand that are not bad by a place or by a key: more keys than any table holds, by the count alone,
+/// and a kind of place that there isn't. And a position beside done, which changes nothing.
+fn hold_by_hand(tag: Tag, place: Place, tally: &mut Tally) -> Result<(), String> {
+    let [kind, at] = place.numbers();
+    let bad = [
+        [kind, at, KEYS + 1],
+        [kind, at, usize::MAX],
+        [kind + 4, at, 0],
+        [usize::MAX - kind, at, 0],
+    ];
+    for [kind, at, count] in bad {
+        let mut ours = State::at(place, &[]);
+        ours.numbers = [kind, at, count, UNTOUCHED];
+        let mut wanted = ours.zeroed();
+        wanted.numbers[3] = OUT_FULL;
+        tally.bad += 1;
+        tally.steps += 1;
+        hold_step(tag, &mut ours, &wanted, Some([7, 0, 0, 0, 0]))?;
+    }
+    let mut ours = State::at(Place::Done, &[]);
+    ours.numbers[1] = at;
+    let mut wanted = ours.clone();
+    wanted.numbers[3] = ENDED;
     tally.runs += 1;
     tally.steps += 1;
-    hold_step(tag, &mut ours, &State::zeroed(), Some([7, 0, 0, 0, 0]))
+    hold_step(tag, &mut ours, &wanted, None)
 }
 
 fn places(len: usize) -> Vec<Place> {
@@ -532,7 +609,7 @@ fn hold_states(bytes: &[u8], lists: &[Vec<Range<usize>>], tally: &mut Tally) -> 
     tally.tags += 1;
     for place in places(bytes.len()) {
         for tag in Tag::readings(bytes) {
-            hold_overcount(tag, place, tally)?;
+            hold_by_hand(tag, place, tally)?;
             for keys in lists {
                 hold_state(tag, place, keys, tally)?;
             }
@@ -616,12 +693,208 @@ fn drawn_long(extent: &Extent, tally: &mut Tally) -> Result<(), String> {
     Ok(())
 }
 
-const PARTS: [(&str, Part<Extent, Tally>); 5] = [
+/// A run with all places, and where each step begins: the states before its steps, the answers, and the state that
+/// is left.
+struct Whole {
+    states: Vec<State>,
+    answers: Vec<[usize; 5]>,
+}
+
+impl Whole {
+    fn read(tag: Tag, from: &State) -> Self {
+        let (mut states, mut answers) = (vec![from.clone()], Vec::new());
+        let mut state = from.clone();
+        let mut out = [0; 5];
+        while state.read(tag, &mut out) == 1 {
+            states.push(state.clone());
+            answers.push(out);
+        }
+        states.push(state);
+        Whole { states, answers }
+    }
+
+    /// What is due from a step on with so many places and so much room: how many answers, and why it stops.
+    fn due(&self, from: usize, places: usize, room: usize) -> (usize, usize) {
+        for step in from.. {
+            if step - from == room {
+                return (room, OUT_FULL);
+            }
+            if step == self.answers.len() {
+                return (step - from, ENDED);
+            }
+            let recorded = self.states[step + 1].numbers[2];
+            if recorded > self.states[step].numbers[2] && recorded > places {
+                return (step - from, MORE_KEYS);
+            }
+        }
+        unreachable!("a step is the last")
+    }
+
+    /// The state that is left before a step, with so many places.
+    fn left(&self, step: usize, why: usize, starts: usize, ends: usize) -> State {
+        let step = if why == ENDED { step + 1 } else { step };
+        let mut state = self.states[step].with_places(starts, ends);
+        state.numbers[3] = why;
+        state
+    }
+}
+
+/// A run with few places, then more of them each time that a key has none.
+fn hold_with_places(
+    tag: Tag,
+    from: &State,
+    whole: &Whole,
+    lcg: &mut Lcg,
+    tally: &mut Tally,
+) -> Result<(), String> {
+    let recorded = from.numbers[2];
+    let mut places = [recorded + lcg.below(KEYS + 1 - recorded); 2];
+    if lcg.chance(50) {
+        places = [recorded + lcg.below(4.min(KEYS + 1 - recorded)); 2];
+    }
+    let mut ours = from.with_places(places[0], places[1]);
+    let mut step = 0;
+    loop {
+        let room = 1 + lcg.below(9);
+        let (count, why) = whole.due(step, places[0].min(places[1]), room);
+        let mut out = vec![UNTOUCHED; 5 * room + lcg.below(5)];
+        let got = ours.read(tag, &mut out);
+        let wanted = whole.left(step + count, why, places[0], places[1]);
+        let answers = whole.answers[step..step + count].as_flattened();
+        let told = out.get(..5 * count) == Some(answers);
+        let behind = out[5 * count..].iter().all(|&number| number == UNTOUCHED);
+        tally.steps += 1;
+        if got != count || !told || !behind || ours != wanted {
+            return Err(format!(
+                "{} with {places:?} places and room for {room}, step {step}: ours {got} leaving {}\n  wanted {count} leaving {}",
+                tag.shown(),
+                ours.shown(),
+                wanted.shown()
+            ));
+        }
+        step += count;
+        match why {
+            ENDED => return Ok(()),
+            MORE_KEYS => {
+                tally.few_places += 1;
+                places = places.map(|places| (places + 1 + lcg.below(3 * places + 2)).min(KEYS));
+                if lcg.chance(20) {
+                    // the shorter one counts
+                    places[lcg.below(2)] = KEYS;
+                }
+                ours = ours.with_places(places[0], places[1]);
+            }
+            _ => {}
+        }
+    }
+}
+
+/// Fewer places than keys are recorded is a bad state; more than there can be is no table.
+fn hold_other_places(tag: Tag, from: &State, lcg: &mut Lcg) -> Result<(), String> {
+    let recorded = from.numbers[2];
+    let mut cases = vec![
+        [KEYS + 1, KEYS],
+        [KEYS, KEYS + 1],
+        [0, KEYS + 1],
+        [600, 600],
+    ];
+    if recorded > 0 {
+        let fewer = lcg.below(recorded);
+        cases.extend([[fewer; 2], [fewer, KEYS], [KEYS, fewer]]);
+    }
+    for [starts, ends] in cases {
+        let mut ours = from.with_places(starts, ends);
+        let mut out = [UNTOUCHED; 11];
+        let (count, wanted, written) = match starts.max(ends) > KEYS {
+            true => (NONE, ours.clone(), [UNTOUCHED; 5]),
+            false => {
+                let mut wanted = ours.zeroed();
+                wanted.numbers[3] = ENDED;
+                (1, wanted, [7, 0, 0, 0, 0])
+            }
+        };
+        let got = ours.read(tag, &mut out);
+        if got != count || out[..5] != written || out[5..] != [UNTOUCHED; 6] || ours != wanted {
+            return Err(format!(
+                "{} with {starts} and {ends} places: ours {got} {out:?} leaving {}, wanted {count} leaving {}",
+                tag.shown(),
+                ours.shown(),
+                wanted.shown()
+            ));
+        }
+    }
+    Ok(())
+}
+
+/// Key tables of every length against full ones, from the start of a tag and from inside it.
+fn few_places(extent: &Extent, tally: &mut Tally) -> Result<(), String> {
+    let mut lcg = Lcg::new(SEED + 3);
+    for round in 0..extent.few_places {
+        let shape = Shape {
+            attributes: match round % 4 {
+                0 => 250 + lcg.below(12),
+                _ => lcg.below(40),
+            },
+            repeated: [0, 3, 20][lcg.below(3)],
+            damaged: [0, 0, 10][lcg.below(3)],
+            wild: lcg.chance(30),
+        };
+        let bytes = cases::long_tag(&mut lcg, &shape);
+        tally.tags += 1;
+        for tag in Tag::readings(&bytes) {
+            let whole = Whole::read(tag, &State::at(Place::Next(0), &[]));
+            tally.runs += 1;
+            let last = whole.answers.len();
+            for from in [0, 0, lcg.below(last + 1), last] {
+                let rest = Whole {
+                    states: whole.states[from..].to_vec(),
+                    answers: whole.answers[from..].to_vec(),
+                };
+                let mut state = rest.states[0].clone();
+                state.numbers[3] = UNTOUCHED;
+                hold_with_places(tag, &state, &rest, &mut lcg, tally)?;
+                hold_other_places(tag, &state, &mut lcg)?;
+            }
+        }
+    }
+    every_number_of_places(tally)
+}
+
+/// A tag of 257 keys and each number of places.
+fn every_number_of_places(tally: &mut Tally) -> Result<(), String> {
+    let bytes: String = (0..=KEYS).map(|n| format!(" k{n}=''")).collect();
+    tally.tags += 1;
+    for tag in Tag::readings(bytes.as_bytes()) {
+        let opened = State::at(Place::Next(0), &[]);
+        let whole = Whole::read(tag, &opened);
+        for places in 0..=KEYS {
+            let room = KEYS + 2;
+            let mut ours = opened.with_places(places, places);
+            let mut out = vec![UNTOUCHED; 5 * room];
+            let (count, why) = whole.due(0, places, room);
+            let got = ours.read(tag, &mut out);
+            tally.steps += 1;
+            tally.few_places += usize::from(why == MORE_KEYS);
+            let told = out[..5 * count] == *whole.answers[..count].as_flattened();
+            if got != count || !told || ours != whole.left(count, why, places, places) {
+                return Err(format!(
+                    "{} with {places} places: ours {got} leaving {}, wanted {count}",
+                    tag.shown(),
+                    ours.shown()
+                ));
+            }
+        }
+    }
+    Ok(())
+}
+
+const PARTS: [(&str, Part<Extent, Tally>); 6] = [
     ("every byte", every_byte),
     ("every short tag", every_short),
     ("drawn short tags", drawn_short),
     ("states", states),
     ("drawn long tags", drawn_long),
+    ("few places", few_places),
 ];
 
 fn main() -> ExitCode {

@@ -6,7 +6,8 @@
  * - A slice is a pointer and a length, in elements. The pointer is aligned, and so many elements can be
  *   read there, and written where it is not const. Where the length is 0 nothing is read or written
  *   through the pointer: it may be null.
- * - An array of a fixed length is a pointer alone, which is not null, and so many elements are there.
+ * - `head`, `state` and `detail` have a fixed number of elements and are pointers alone, which are not
+ *   null.
  * - What a call writes lies apart from everything else that it is given.
  *
  * Positions are indexes of bytes, from 0; bounds are a start and the end behind the last byte.
@@ -27,18 +28,17 @@ extern "C" {
 /* The numbers that a caller takes for granted about the memory it lends, as the library has them: so a
  * program can find out that it was compiled with another header than the library's. Any other `what`
  * is 0. */
-#define MZ_LAYOUT_KEYS 0             /* MZ_KEYS */
-#define MZ_LAYOUT_STATE 1            /* MZ_STATE */
-#define MZ_LAYOUT_ANSWER 2           /* MZ_ANSWER */
-#define MZ_LAYOUT_TEXT 3             /* MZ_TEXT */
-#define MZ_LAYOUT_RECORDS 4          /* MZ_RECORDS */
-#define MZ_LAYOUT_HEAD 5             /* MZ_HEAD */
-#define MZ_LAYOUT_DETAIL 6           /* MZ_DETAIL */
-#define MZ_LAYOUT_LISTED 7           /* MZ_LISTED */
-#define MZ_LAYOUT_NUMBER_SIZE 8      /* sizeof(size_t) */
-#define MZ_LAYOUT_NUMBER_ALIGNMENT 9 /* its alignment */
-#define MZ_LAYOUT_LEVEL_SIZE 10      /* sizeof(uint16_t) */
-#define MZ_LAYOUT_LEVEL_ALIGNMENT 11 /* its alignment */
+#define MZ_LAYOUT_KEYS 0              /* MZ_KEYS */
+#define MZ_LAYOUT_STATE 1             /* MZ_STATE */
+#define MZ_LAYOUT_ANSWER 2            /* MZ_ANSWER */
+#define MZ_LAYOUT_TEXT 3              /* MZ_TEXT */
+#define MZ_LAYOUT_RECORDS 4           /* MZ_RECORDS */
+#define MZ_LAYOUT_RECORD 5            /* MZ_RECORD */
+#define MZ_LAYOUT_HEAD 6              /* MZ_HEAD */
+#define MZ_LAYOUT_DETAIL 7            /* MZ_DETAIL */
+#define MZ_LAYOUT_LISTED 8            /* MZ_LISTED */
+#define MZ_LAYOUT_NUMBER_SIZE 9       /* sizeof(size_t) */
+#define MZ_LAYOUT_NUMBER_ALIGNMENT 10 /* its alignment */
 size_t mz_layout(size_t what);
 
 /* ---- Names ---- */
@@ -63,10 +63,10 @@ size_t mz_verdict(const uint8_t *name, size_t name_len, const uint8_t *value, si
 /* What a value says: 0 no (`0`, `false`), 1 yes (`1`, `true`), 2 neither. */
 size_t mz_as_bool(const uint8_t *value, size_t value_len);
 
-#define MZ_KEYS 256         /* elements of `starts` and of `ends` */
-#define MZ_STATE 3          /* elements of `state` */
+#define MZ_KEYS 256         /* so many keys of a tag can be recorded: elements of `starts` and `ends`, at most */
+#define MZ_STATE 4          /* elements of `state` */
 #define MZ_ANSWER 5         /* elements of `out` for each answer */
-#define MZ_NONE SIZE_MAX    /* instead of a number of answers: a table or `state` has a wrong length */
+#define MZ_NONE SIZE_MAX    /* instead of a number of answers: `starts` or `ends` is longer than MZ_KEYS */
 
 /* The kinds of a place, `state[0]`. */
 #define MZ_DONE 0           /* reading has ended */
@@ -74,13 +74,18 @@ size_t mz_as_bool(const uint8_t *value, size_t value_len);
 #define MZ_SKIP_VALUE 2     /* go on at the first whitespace from the position on */
 #define MZ_SKIP_FROM_EQ 3   /* the same, and the position is that of a `=` */
 
+/* Why reading stopped, `state[3]`. */
+#define MZ_OUT_FULL 0       /* `out` is full: more may follow */
+#define MZ_END 1            /* the tag has no more answers */
+#define MZ_MORE_KEYS 2      /* the next key has no place in `starts` and `ends`: lend longer ones and call again */
+
 /* What an answer is, its first number. The others follow it; those that it doesn't have are 0. */
 #define MZ_EXPECTED_EQ 1    /* position */
 #define MZ_EXPECTED_VALUE 2 /* the tag's length */
 #define MZ_UNQUOTED_VALUE 3 /* position */
 #define MZ_EXPECTED_QUOTE 4 /* the tag's length, the quote's byte */
 #define MZ_DUPLICATED 5     /* positions of the key and of the earlier one */
-#define MZ_KEY_TABLE_FULL 6 /* position of the key */
+#define MZ_KEY_TABLE_FULL 6 /* position of the key, which is new where MZ_KEYS are recorded */
 #define MZ_BAD_STATE 7      /* the state is none that reading leaves */
 #define MZ_DOUBLE_Q 101     /* bounds of the key, bounds of the value */
 #define MZ_SINGLE_Q 102
@@ -88,76 +93,100 @@ size_t mz_as_bool(const uint8_t *value, size_t value_len);
 #define MZ_EMPTY 104        /* bounds of the key */
 
 /*
- * Reads as many answers of a tag as `out` has room for; the number of them is the result, and fewer
- * than fit say that no more follow.
+ * Reads answers of a tag until `out` has no room for one more, the tag ends, or a key can't be recorded.
+ * The number of answers is the result; `state[3]` says which of the three it was.
  *
- * `state` is the kind of the place, its position, and the number of recorded keys. A tag is opened by
- * { MZ_NEXT, where its attributes begin, 0 }, and each call leaves the state for the next one. Recorded
- * keys are bounds, `starts[i]` and `ends[i]`; places behind the number of them need not be set, and are
- * left alone, but for MZ_BAD_STATE, which sets both tables to zeros. What stands in `out` behind the
- * answers is left alone too. With MZ_NONE nothing is read or written.
+ * `state` is the kind of the place, its position, the number of recorded keys, and why reading stopped.
+ * A tag is opened by { MZ_NEXT, where its attributes begin, 0, 0 }; each call leaves the state for the next
+ * one, which doesn't look at state[3].
+ *
+ * Recorded keys are bounds, `starts[i]` and `ends[i]`. With checks off none is recorded, and both may be
+ * empty. They may have any length up to MZ_KEYS, and the shorter one counts: after MZ_MORE_KEYS the caller
+ * copies the recorded keys to longer ones, and the answers go on as if those had been there from the start.
+ * Places behind the recorded keys need not be set, and are left alone, but for MZ_BAD_STATE, which sets both
+ * tables to zeros and ends reading. More recorded keys than there are places is such a state.
+ *
+ * What stands in `out` behind the answers is left alone. Where `out` has no room for any answer nothing at
+ * all is written; and so it is with MZ_NONE.
  */
 size_t mz_read_batch(const uint8_t *tag, size_t tag_len,
                      size_t *starts, size_t starts_len,
                      size_t *ends, size_t ends_len,
-                     size_t *state, size_t state_len,
+                     size_t *state,
                      bool html, bool checks,
                      size_t *out, size_t out_len);
 
-/* How many answers a tag gives from its start to its end, by single steps whose state goes by value:
- * for comparing times. */
-size_t mz_count_by_next(const uint8_t *tag, size_t tag_len, bool html, bool checks);
-
 /* ---- Scopes ---- */
 
-#define MZ_TEXT 65536       /* elements of `text` */
-#define MZ_RECORDS 1026     /* elements of `starts`, `prefix_lens`, `value_lens`, `levels` */
-#define MZ_HEAD 4           /* elements of `head` */
+#define MZ_TEXT 65536       /* bytes of text that a resolver can hold: elements of `text`, at most */
+#define MZ_RECORDS 1026     /* bindings that it can hold, of which two are built in */
+#define MZ_RECORD 4         /* elements of `records` for each: start, prefix length, value length, level */
+#define MZ_HEAD 4           /* elements of `head`: text used, bindings, level, limit */
 #define MZ_DETAIL 2         /* elements of `detail`, but for the listings */
 #define MZ_LISTED 5         /* elements of `detail` in the listings */
 
 /*
- * A resolver is the caller's own memory: six arrays, of which `head` is text used, number of records,
- * level, limit. The first five have a fixed number of elements and pass by their pointers alone.
- * mz_fresh sets them up whatever they held. The limit, head[3], may be set to any number, and the level,
- * head[2], be read; all else is left to the calls. Any other content is answered by MZ_BAD_RESOLVER, and
- * the six arrays are left as they are.
+ * A resolver is the caller's own memory: its text, its records and its head. Text and records may be as
+ * short as what is in use, and no longer than MZ_TEXT and MZ_RECORD * MZ_RECORDS elements: what is not lent
+ * counts as unused and zero. A call looks at all that is lent, so that little memory makes it fast.
+ *
+ * mz_fresh sets all of it up, whatever it held; it needs MZ_FRESH_TEXT and MZ_FRESH_RECORDS elements. A call
+ * that has no room for what it would add changes nothing and answers MZ_LEND_MORE: the caller copies text
+ * and records to longer arrays that go on with zeros, and calls again, as with realloc. With arrays of full
+ * length that doesn't come.
+ *
+ * The limit, head[3], may be set to any number, and head[0] to head[2] be read; all else is left to the
+ * calls. Memory of any other content is answered by MZ_BAD_RESOLVER, and left as it is.
  */
+struct mz_resolver {
+    uint8_t *text;
+    size_t text_len;
+    size_t *records;
+    size_t records_len;
+    size_t head[MZ_HEAD];
+};
+
+/* A resolver as the calls take it: the parameters, and what a caller passes for them. */
 #define MZ_RESOLVER(array)                                                                            \
-    array uint8_t *text, array size_t *starts, array size_t *prefix_lens, array size_t *value_lens,   \
-        array uint16_t *levels, array size_t *head, size_t head_len
+    array uint8_t *text, size_t text_len, array size_t *records, size_t records_len, array size_t *head
 #define MZ_CHANGED
 #define MZ_READ const
+#define MZ_PASS(resolver)                                                                             \
+    (resolver).text, (resolver).text_len, (resolver).records, (resolver).records_len, (resolver).head
+
+#define MZ_FRESH_TEXT 73
+#define MZ_FRESH_RECORDS (2 * MZ_RECORD)
 
 /* 0, or a refusal. `detail` is set to its numbers, and to 0 where it has fewer; the listings also set the
- * place. */
+ * place. Where more than one holds, MZ_WRONG_LENGTH comes first, and MZ_LEND_MORE last. */
 #define MZ_INVALID_XML_PREFIX_BIND 12   /* bounds of the value */
 #define MZ_INVALID_XMLNS_PREFIX_BIND 13 /* bounds of the value */
 #define MZ_INVALID_PREFIX_FOR_XML 14    /* bounds of the prefix */
 #define MZ_INVALID_PREFIX_FOR_XMLNS 15  /* bounds of the prefix */
 #define MZ_TOO_MANY_BINDINGS 16         /* the limit */
 #define MZ_TOO_DEEPLY_NESTED 17         /* 65535 */
-#define MZ_BINDING_TABLE_FULL 18
-#define MZ_TEXT_FULL 19
+#define MZ_BINDING_TABLE_FULL 18        /* MZ_RECORDS are in use */
+#define MZ_TEXT_FULL 19                 /* MZ_TEXT bytes would not do */
 #define MZ_BAD_RESOLVER 20
-#define MZ_WRONG_LENGTH 99              /* a slice has a wrong length; nothing is changed */
+#define MZ_LEND_MORE 98                 /* text or records are too short; nothing is changed */
+#define MZ_WRONG_LENGTH 99              /* what is in use is not lent, or an array is too long; nothing is changed */
 
 /* The resolver with no declarations: level 0, limit 128. */
 size_t mz_fresh(MZ_RESOLVER(MZ_CHANGED));
 
-/* Binds a prefix, or the default where `named` is false, at the present level. */
+/* Binds a prefix, or the default where `named` is false, at the present level. A refusal changes nothing.
+ * Bounds are those in the prefix or the value. */
 size_t mz_add(MZ_RESOLVER(MZ_CHANGED), bool named,
               const uint8_t *prefix, size_t prefix_len,
               const uint8_t *value, size_t value_len,
-              size_t *detail, size_t detail_len);
+              size_t *detail);
 
 /* One level more, with the declarations of a tag whose attributes begin at `at`. Bounds are those in the
  * tag. A declaration that is refused (12 to 16, 18, 19) ends the call: the level stays raised and the
- * bindings before it stay, so that mz_pop undoes the whole push. MZ_TOO_DEEPLY_NESTED and
- * MZ_BAD_RESOLVER change nothing. The first fault of the attributes themselves, as a value without
- * quotes, ends reading with success: what comes behind it declares nothing. */
-size_t mz_push(MZ_RESOLVER(MZ_CHANGED), const uint8_t *tag, size_t tag_len, size_t at,
-               size_t *detail, size_t detail_len);
+ * bindings before it stay, so that mz_pop undoes the whole push. MZ_TOO_DEEPLY_NESTED, MZ_BAD_RESOLVER and
+ * MZ_LEND_MORE change nothing. The first fault of the attributes themselves, as a value without quotes, ends
+ * reading with success: what comes behind it declares nothing. */
+size_t mz_push(MZ_RESOLVER(MZ_CHANGED), const uint8_t *tag, size_t tag_len, size_t at, size_t *detail);
 
 /* One level less, from 0 to 0. */
 size_t mz_pop(MZ_RESOLVER(MZ_CHANGED));
@@ -167,14 +196,13 @@ size_t mz_set_level(MZ_RESOLVER(MZ_CHANGED), uint16_t level);
 
 /* The namespace of a name: 0 unbound; 1 bound, with the bounds of the URI in the text; 2 unknown, with
  * the bounds of the prefix in the name. */
-size_t mz_resolve(MZ_RESOLVER(MZ_READ), const uint8_t *name, size_t name_len, bool use_default,
-                  size_t *detail, size_t detail_len);
+size_t mz_resolve(MZ_RESOLVER(MZ_READ), const uint8_t *name, size_t name_len, bool use_default, size_t *detail);
 
-/* The same for many names by one test of the resolver, which is most of what mz_resolve costs. Name k is
- * tag[from[k]] up to tag[to[k]], and is empty where these are no bounds in the tag; the first `elements`
- * names want the default. kinds[k] is the answer, begins[k] and ends[k] are its bounds, or 0: those of
- * a prefix are in the name and not in the tag. 0 where all names are answered; a refusal, and
- * MZ_WRONG_LENGTH where the five arrays have not all the same length, write nothing. */
+/* The same for many names by one test of the resolver. Name k is tag[from[k]] up to tag[to[k]], and is empty
+ * where these are no bounds in the tag; the first `elements` names want the default. kinds[k] is the answer,
+ * begins[k] and ends[k] are its bounds, or 0: those of a prefix are in the name and not in the tag. 0 where
+ * all names are answered; a refusal, and MZ_WRONG_LENGTH where the five arrays have not all the same length,
+ * write nothing. */
 size_t mz_resolve_all(MZ_RESOLVER(MZ_READ), const uint8_t *tag, size_t tag_len,
                       const size_t *from, size_t from_len,
                       const size_t *to, size_t to_len, size_t elements,
@@ -184,22 +212,22 @@ size_t mz_resolve_all(MZ_RESOLVER(MZ_READ), const uint8_t *tag, size_t tag_len,
 
 /* The first binding shown from a place on, 0 at first: 0 the end; 1 a default, 2 a named one, with the
  * bounds of prefix and value in the text. detail[4] is the place to go on from: behind the binding that
- * is shown, and the place that was asked at the end and with MZ_BAD_RESOLVER, where the four bounds are
- * 0. mz_binding shows those that hold, mz_binding_of those of a level. */
-size_t mz_binding(MZ_RESOLVER(MZ_READ), size_t place, size_t *detail, size_t detail_len);
-size_t mz_binding_of(MZ_RESOLVER(MZ_READ), uint16_t level, size_t place,
-                     size_t *detail, size_t detail_len);
+ * is shown, and the place that was asked at the end and with a refusal, where the four bounds are 0. mz_binding shows those that hold, mz_binding_of those of a level. */
+size_t mz_binding(MZ_RESOLVER(MZ_READ), size_t place, size_t *detail);
+size_t mz_binding_of(MZ_RESOLVER(MZ_READ), uint16_t level, size_t place, size_t *detail);
 
 /*
  * Whether one of the attributes that are left of a tag is `nil` in the namespace of XML Schema instances,
  * with a yes for its value: 0 no, 1 yes. The tag is lent as to mz_read_batch, and reading goes on behind
- * the attribute that was a yes, or has ended. What is wrong in the tag counts as a no. MZ_BAD_RESOLVER
- * leaves the tag's three arrays as they are; MZ_BAD_STATE leaves them as mz_read_batch does.
+ * the attribute that was a yes, or has ended. What is wrong in the tag counts as a no. MZ_BAD_RESOLVER, and
+ * MZ_LEND_MORE where a key has no place in the key tables, leave the tag's three arrays as they are;
+ * MZ_BAD_STATE leaves them as mz_read_batch does. Key tables longer than MZ_KEYS are MZ_WRONG_LENGTH.
+ * state[3] is left alone.
  */
 size_t mz_has_nil(MZ_RESOLVER(MZ_READ), const uint8_t *tag, size_t tag_len,
                   size_t *key_starts, size_t key_starts_len,
                   size_t *key_ends, size_t key_ends_len,
-                  size_t *state, size_t state_len,
+                  size_t *state,
                   bool html, bool checks);
 
 #ifdef __cplusplus

@@ -4,7 +4,7 @@
 use mezzulidda::events::attributes::Attributes;
 use mezzulidda::name::{Memory, NamespaceResolver};
 
-const LAYOUT: [usize; 12] = [256, 3, 5, 65_535, 1_026, 4, 2, 5, 8, 8, 2, 4];
+const LAYOUT: [usize; 11] = [256, 4, 5, 65_535, 1_026, 4, 4, 2, 5, 8, 4];
 
 #[unsafe(no_mangle)]
 extern "C" fn mz_layout(what: usize) -> usize {
@@ -15,7 +15,7 @@ fn main() {
     match std::env::args().nth(1).as_deref() {
         Some("tag") => drop(Attributes::new("a b=''", 1).next()),
         Some("new") => drop(NamespaceResolver::default()),
-        Some("resume") => drop(NamespaceResolver::resume_in(Memory::boxed())),
+        Some("resume") => drop(NamespaceResolver::resume_in(&mut Memory::<73, 2>::zeros())),
         _ => std::process::exit(2),
     }
 }

@@ -100,27 +100,35 @@ pub fn change(lcg: &mut Lcg, scope: &mut Scope) {
         scope.head[1].clamp(1, RECORDS),
     ];
     let index = some_record(lcg, count);
-    match lcg.below(11) {
+    match lcg.below(12) {
         0 => scope.text[lcg.below(used)] ^= 1,
         1 => scope.text[lcg.below(BUILT_IN_TEXT)] ^= 1,
         2 => {
             let places = [used, lcg.below(TEXT), TEXT - 1];
             scope.text[places[lcg.below(3)].min(TEXT - 1)] ^= 1;
         }
-        3 => scope.starts[index] = near(lcg, scope.starts[index]),
-        4 => scope.prefix_lens[index] = near(lcg, scope.prefix_lens[index]),
-        5 => scope.value_lens[index] = near(lcg, scope.value_lens[index]),
-        6 => scope.levels[index] = near(lcg, scope.levels[index].into()) as u16,
+        part @ 3..7 => {
+            let number = &mut scope.row_mut(index)[part - 3];
+            *number = near(lcg, *number);
+        }
         // The bound between prefix and value moves: good, but for the built-ins.
         7 => {
-            scope.prefix_lens[index] = scope.prefix_lens[index].wrapping_add(1);
-            scope.value_lens[index] = scope.value_lens[index].wrapping_sub(1);
+            let row = scope.row_mut(index);
+            row[1] = row[1].wrapping_add(1);
+            row[2] = row[2].wrapping_sub(1);
         }
         8 => scope.head[0] = near(lcg, scope.head[0]),
         9 => scope.head[1] = near(lcg, scope.head[1]),
+        // the deepest level there is, and one that sixteen bits can't hold
+        10 => {
+            let levels = [0, 1, DEEPEST.into(), usize::from(DEEPEST) + 1, usize::MAX];
+            scope.head[2] = levels[lcg.below(levels.len())];
+        }
+        // all levels go up with that of a record, so that only their size can be wrong
         _ => {
-            let level = near(lcg, scope.head[2]);
-            scope.head[2] = level.min(DEEPEST.into());
+            let level = usize::from(DEEPEST) + lcg.below(2);
+            scope.row_mut(index)[3] = level;
+            scope.head[2] = level;
         }
     }
 }

@@ -16,41 +16,37 @@ pub const DEEPEST: u16 = u16::MAX;
 
 /// What stands in memory that a call has to leave alone.
 pub const UNTOUCHED: usize = 0x5a5a_5a5a;
-/// The library's answer where a lent array has another length than it has to have.
+/// The library's answers about lent memory: text or records are too short for what the call would leave; and
+/// what is in use is not lent, or more than the capacity is.
+pub const LEND_MORE: usize = 98;
 pub const WRONG_LENGTH: usize = 99;
 
-/// The caller's own resolver that is lent to the library. Each array can have a wrong length.
+/// Numbers of a record: start, prefix length, value length, level; and those of all records.
+pub const ROW: usize = 4;
+pub const NUMBERS: usize = ROW * RECORDS;
+
+/// The caller's own resolver that is lent to the library. Text and records can have any length.
 #[derive(Clone, PartialEq)]
 pub struct Scope {
     pub text: Vec<u8>,
-    pub starts: Vec<usize>,
-    pub prefix_lens: Vec<usize>,
-    pub value_lens: Vec<usize>,
-    pub levels: Vec<u16>,
+    pub records: Vec<usize>,
     pub head: Vec<usize>,
 }
 
 macro_rules! call {
     ($function:ident, $scope:expr $(, $more:expr)*) => {{
         let scope: &mut Scope = $scope;
-        let lens = [
-            scope.starts.len(),
-            scope.prefix_lens.len(),
-            scope.value_lens.len(),
-            scope.levels.len(),
-        ];
-        assert!(scope.text.len() == TEXT && lens == [RECORDS; 4]);
+        assert!(scope.head.len() == 4);
         // SAFETY: each pointer is that of a live slice of the length beside it, or of the length that
-        // was just tested; what is written is borrowed mutably, and apart from everything else.
+        // was just tested, or of a detail or a state of the length that the call writes; what is written is
+        // borrowed mutably, and apart from everything else.
         unsafe {
             library::$function(
                 scope.text.as_mut_ptr(),
-                scope.starts.as_mut_ptr(),
-                scope.prefix_lens.as_mut_ptr(),
-                scope.value_lens.as_mut_ptr(),
-                scope.levels.as_mut_ptr(),
+                scope.text.len(),
+                scope.records.as_mut_ptr(),
+                scope.records.len(),
                 scope.head.as_mut_ptr(),
-                scope.head.len(),
                 $($more),*
             )
         }
@@ -96,7 +92,8 @@ impl Call {
 
     /// The library's answer.
     pub fn ours(&self, scope: &mut Scope, detail: &mut [usize]) -> usize {
-        let (to, len) = (detail.as_mut_ptr(), detail.len());
+        assert!(detail.len() == self.detail_len());
+        let to = detail.as_mut_ptr();
         match self {
             Call::Fresh => call!(mz_fresh, scope),
             Call::Add(prefix, value) => {
@@ -104,9 +101,9 @@ impl Call {
                 let prefix = prefix.as_deref().unwrap_or_default();
                 let (p, p_len) = (prefix.as_ptr(), prefix.len());
                 let (v, v_len) = (value.as_ptr(), value.len());
-                call!(mz_add, scope, named, p, p_len, v, v_len, to, len)
+                call!(mz_add, scope, named, p, p_len, v, v_len, to)
             }
-            Call::Push(tag, at) => call!(mz_push, scope, tag.as_ptr(), tag.len(), *at, to, len),
+            Call::Push(tag, at) => call!(mz_push, scope, tag.as_ptr(), tag.len(), *at, to),
             Call::Pop => call!(mz_pop, scope),
             Call::SetLevel(level) => call!(mz_set_level, scope, *level),
             Call::SetLimit(limit) => {
@@ -114,20 +111,36 @@ impl Call {
                 0
             }
             Call::Resolve(name, default) => {
-                call!(
-                    mz_resolve,
-                    scope,
-                    name.as_ptr(),
-                    name.len(),
-                    *default,
-                    to,
-                    len
-                )
+                let (name, len) = (name.as_ptr(), name.len());
+                call!(mz_resolve, scope, name, len, *default, to)
             }
             Call::ResolveAll(names, elements) => resolve_all(scope, names, *elements, detail),
-            Call::Binding(place) => call!(mz_binding, scope, *place, to, len),
-            Call::BindingOf(level, place) => call!(mz_binding_of, scope, *level, *place, to, len),
+            Call::Binding(place) => call!(mz_binding, scope, *place, to),
+            Call::BindingOf(level, place) => call!(mz_binding_of, scope, *level, *place, to),
         }
+    }
+
+    /// The detail that is due with an answer: the numbers that the answer has, then zeros; where a listing
+    /// shows nothing the place that was asked comes last. Of many names a refusal writes nothing.
+    pub fn detail_of(&self, code: usize, numbers: &[usize]) -> Vec<usize> {
+        let len = self.detail_len();
+        let mut detail = numbers.to_vec();
+        match self {
+            Call::ResolveAll(..) if code != 0 => detail = vec![UNTOUCHED; len],
+            Call::Binding(place) | Call::BindingOf(_, place) if !matches!(code, 1 | 2) => {
+                detail = vec![0, 0, 0, 0, *place];
+            }
+            _ => detail.resize(len, 0),
+        }
+        detail
+    }
+
+    /// Whether it can change the resolver.
+    pub const fn changes(&self) -> bool {
+        matches!(
+            self,
+            Call::Fresh | Call::Add(..) | Call::Push(..) | Call::Pop | Call::SetLevel(_)
+        )
     }
 
     /// The crate's answer to a call that changes the resolver.
@@ -213,6 +226,37 @@ fn resolve_all(
     )
 }
 
+/// The answer to names whose five arrays have lengths of their own, the first so many of each.
+pub fn resolve_all_of(scope: &mut Scope, lens: [usize; 5]) -> usize {
+    let tag = "p:a a";
+    let (from, to) = ([0, 4, 0], [3, 5, 0]);
+    let mut told = [[UNTOUCHED; 3]; 3];
+    let [kinds, begins, ends] = told.each_mut().map(|numbers| numbers.as_mut_ptr());
+    let code = call!(
+        mz_resolve_all,
+        scope,
+        tag.as_ptr(),
+        tag.len(),
+        from[..lens[0]].as_ptr(),
+        lens[0],
+        to[..lens[1]].as_ptr(),
+        lens[1],
+        1,
+        kinds,
+        lens[2].min(3),
+        begins,
+        lens[3].min(3),
+        ends,
+        lens[4].min(3)
+    );
+    let written = told.as_flattened().iter().any(|n| *n != UNTOUCHED);
+    match written {
+        // none of the codes
+        true if code != 0 => usize::MAX,
+        _ => code,
+    }
+}
+
 /// The library's search for `nil` in a tag, with an iterator in three arrays: starts and ends of recorded
 /// keys, and its numbers.
 pub fn has_nil(
@@ -222,6 +266,7 @@ pub fn has_nil(
     html: bool,
     checks: bool,
 ) -> usize {
+    assert!(numbers.len() == 4);
     call!(
         mz_has_nil,
         scope,
@@ -232,7 +277,6 @@ pub fn has_nil(
         ends.as_mut_ptr(),
         ends.len(),
         numbers.as_mut_ptr(),
-        numbers.len(),
         html,
         checks
     )
@@ -257,10 +301,7 @@ impl Scope {
     pub fn unwritten() -> Self {
         Scope {
             text: vec![0x5a; TEXT],
-            starts: vec![UNTOUCHED; RECORDS],
-            prefix_lens: vec![UNTOUCHED; RECORDS],
-            value_lens: vec![UNTOUCHED; RECORDS],
-            levels: vec![0x5a5a; RECORDS],
+            records: vec![UNTOUCHED; NUMBERS],
             head: vec![UNTOUCHED; 4],
         }
     }
@@ -271,39 +312,66 @@ impl Scope {
         let limit = resolver.max_namespace_bindings();
         let mut scope = Scope {
             text: vec![0; TEXT.max(text.len())],
-            starts: vec![0; RECORDS],
-            prefix_lens: vec![0; RECORDS],
-            value_lens: vec![0; RECORDS],
-            levels: vec![0; RECORDS],
+            records: vec![0; NUMBERS],
             head: vec![text.len(), records.len(), resolver.level().into(), limit],
         };
         scope.text[..text.len()].copy_from_slice(text.as_bytes());
-        for (index, record) in records.iter().enumerate().take(RECORDS) {
-            scope.starts[index] = record.start;
-            scope.prefix_lens[index] = record.prefix_len;
-            scope.value_lens[index] = record.value_len;
-            scope.levels[index] = record.level;
+        for (row, record) in scope.records.chunks_exact_mut(ROW).zip(&records) {
+            let level = record.level.into();
+            row.copy_from_slice(&[record.start, record.prefix_len, record.value_len, level]);
         }
         scope
     }
 
-    pub fn record(&self, index: usize) -> Record {
-        Record {
-            start: self.starts[index],
-            prefix_len: self.prefix_lens[index],
-            value_len: self.value_lens[index],
-            level: self.levels[index],
-        }
+    /// The same with text and records of these lengths: cut, or with zeros behind.
+    pub fn with_lengths(&self, text: usize, numbers: usize) -> Self {
+        let mut scope = self.clone();
+        scope.text.resize(text, 0);
+        scope.records.resize(numbers, 0);
+        // so that an access beyond them is one beyond what was allocated
+        scope.text.shrink_to_fit();
+        scope.records.shrink_to_fit();
+        scope
+    }
+
+    /// Whether it holds so much text and so many records, and is no longer than the capacity. More than that
+    /// in use is no matter of lengths, and answered by 20.
+    pub fn holds(&self, used: usize, count: usize) -> bool {
+        let (text, numbers) = (self.text.len(), self.records.len());
+        let holds_text = text <= TEXT && (used <= text || used > TEXT);
+        let holds_rows = numbers <= NUMBERS && (count > RECORDS || ROW * count <= numbers);
+        holds_text && holds_rows
+    }
+
+    /// The four numbers of a record, as they stand.
+    pub fn row(&self, index: usize) -> [usize; ROW] {
+        let row = &self.records[ROW * index..][..ROW];
+        row.try_into().expect("four numbers")
+    }
+
+    pub fn row_mut(&mut self, index: usize) -> &mut [usize] {
+        &mut self.records[ROW * index..][..ROW]
+    }
+
+    /// A record of a resolver that is not bad: its level is one.
+    fn record(&self, index: usize) -> Option<Record> {
+        let [start, prefix_len, value_len, level] = self.row(index);
+        Some(Record {
+            start,
+            prefix_len,
+            value_len,
+            level: level.try_into().ok()?,
+        })
     }
 
     /// The crate's resolver of the same content. `None` where the text is no UTF-8, or a record's part
     /// is none.
     pub fn theirs(&self) -> Option<NamespaceResolver> {
         let text = std::str::from_utf8(self.text.get(..self.head[0])?).ok()?;
-        let records: Vec<_> = (0..self.head[1]).map(|index| self.record(index)).collect();
+        let records: Option<Vec<_>> = (0..self.head[1]).map(|index| self.record(index)).collect();
         scopes::from_parts(
             text,
-            &records,
+            &records?,
             u16::try_from(self.head[2]).ok()?,
             self.head[3],
         )
@@ -312,29 +380,27 @@ impl Scope {
     /// Document 01's 20: any resolver not of this form. The first two records and text are the
     /// built-ins at level 0; each record's text starts where the previous ends, from 0; the last ends
     /// at text used; levels never fall along the table nor exceed the nesting level; counts are within
-    /// capacity; every unused record and text byte is zero.
+    /// capacity; every unused record and text byte is zero. A level is at most 65,535.
     pub fn is_bad(&self) -> bool {
         let [used, count, level, _] = [0, 1, 2, 3].map(|index| self.head[index]);
-        if !(BUILT_IN_TEXT..=TEXT).contains(&used) || !(BUILT_IN..=RECORDS).contains(&count) {
+        if !(BUILT_IN_TEXT..=TEXT).contains(&used)
+            || !(BUILT_IN..=RECORDS).contains(&count)
+            || level > DEEPEST.into()
+        {
             return true;
         }
         let fresh = Scope::of(&NamespaceResolver::default());
-        let built_in = (0..BUILT_IN).all(|index| self.record(index) == fresh.record(index))
+        let built_in = (0..BUILT_IN).all(|index| self.row(index) == fresh.row(index))
             && self.text[..BUILT_IN_TEXT] == fresh.text[..BUILT_IN_TEXT];
         let (mut end, mut lowest, mut chained) = (0u128, 0, true);
-        for record in (0..count).map(|index| self.record(index)) {
-            chained &= record.start as u128 == end && record.level >= lowest;
-            end += record.prefix_len as u128 + record.value_len as u128;
-            lowest = record.level;
+        for [start, prefix_len, value_len, level] in (0..count).map(|index| self.row(index)) {
+            chained &= start as u128 == end && level >= lowest;
+            end += prefix_len as u128 + value_len as u128;
+            lowest = level;
         }
-        let nothing = [0, 0, 0, 0];
-        let unused = |index| {
-            let record = self.record(index);
-            let level = usize::from(record.level);
-            [record.start, record.prefix_len, record.value_len, level] == nothing
-        };
+        let unused = |index| self.row(index) == [0; ROW];
         let zeros = self.text[used..].iter().all(|&b| b == 0) && (count..RECORDS).all(unused);
-        !(built_in && chained && end == used as u128 && usize::from(lowest) <= level && zeros)
+        !(built_in && chained && end == used as u128 && lowest <= level && zeros)
     }
 
     /// The first thing in which two of them differ.
@@ -349,10 +415,7 @@ impl Scope {
             }
         }
         first_other("text byte", &self.text, &wanted.text)
-            .or_else(|| first_other("start of record", &self.starts, &wanted.starts))
-            .or_else(|| first_other("prefix length", &self.prefix_lens, &wanted.prefix_lens))
-            .or_else(|| first_other("value length", &self.value_lens, &wanted.value_lens))
-            .or_else(|| first_other("level of record", &self.levels, &wanted.levels))
+            .or_else(|| first_other("number of the records", &self.records, &wanted.records))
     }
 }
 

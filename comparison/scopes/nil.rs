@@ -36,8 +36,8 @@ impl<'t> Tag<'t> {
     }
 }
 
-/// The caller's own iterator that is lent to the library: the key tables, and the place's kind, its
-/// position, and the count of keys. Each array can have a wrong length.
+/// The caller's own iterator that is lent to the library: the key tables, of any length, and the place's kind,
+/// its position, the count of keys, and a number that a search leaves alone.
 #[derive(Clone, PartialEq)]
 pub struct Cursor {
     pub starts: Vec<usize>,
@@ -54,7 +54,7 @@ impl Cursor {
         let mut cursor = Cursor {
             starts: vec![UNTOUCHED; KEYS],
             ends: vec![UNTOUCHED; KEYS],
-            numbers: vec![kind, position, keys.len()],
+            numbers: vec![kind, position, keys.len(), UNTOUCHED],
         };
         for (index, key) in keys.iter().enumerate().take(KEYS) {
             cursor.starts[index] = key.start;
@@ -64,12 +64,23 @@ impl Cursor {
     }
 
     /// What 7 leaves.
-    pub fn zeroed() -> Self {
+    pub fn zeroed(&self) -> Self {
         Cursor {
-            starts: vec![0; KEYS],
-            ends: vec![0; KEYS],
-            numbers: vec![0; 3],
+            starts: vec![0; self.starts.len()],
+            ends: vec![0; self.ends.len()],
+            numbers: vec![0, 0, 0, self.numbers[3]],
         }
+    }
+
+    /// The same with key tables of these lengths, and what stands in unused places behind.
+    pub fn with_places(&self, starts: usize, ends: usize) -> Self {
+        let mut cursor = self.clone();
+        cursor.starts.resize(starts, UNTOUCHED);
+        cursor.ends.resize(ends, UNTOUCHED);
+        // so that an access beyond them is one beyond what was allocated
+        cursor.starts.shrink_to_fit();
+        cursor.ends.shrink_to_fit();
+        cursor
     }
 
     /// This one as it has to stand where the crate's reader has gone on to: keys are added behind those
@@ -81,7 +92,7 @@ impl Cursor {
             cursor.ends[index] = key.end;
         }
         let [kind, position] = reader.place().numbers();
-        cursor.numbers = vec![kind, position, reader.keys().len()];
+        cursor.numbers[..3].copy_from_slice(&[kind, position, reader.keys().len()]);
         cursor
     }
 
@@ -95,8 +106,9 @@ impl Cursor {
     /// One answer of the library's batch is taken.
     pub fn step(&mut self, tag: Tag) {
         let mut out = [0; 5];
-        // SAFETY: each pointer is that of a live array or slice of the length after it; the tag is only
-        // read, and the four that are written are borrowed mutably and apart from each other.
+        // SAFETY: each pointer is that of a live array or slice of the length after it, or of the four numbers
+        // of a state; the tag is only read, and the four that are written are borrowed mutably and apart from
+        // each other.
         unsafe {
             mz_read_batch(
                 tag.text.as_ptr(),
@@ -106,7 +118,6 @@ impl Cursor {
                 self.ends.as_mut_ptr(),
                 self.ends.len(),
                 self.numbers.as_mut_ptr(),
-                self.numbers.len(),
                 tag.html,
                 tag.checks,
                 out.as_mut_ptr(),

@@ -1,5 +1,6 @@
 //! Memory of the caller's own: what is wrong with memory that can't be used as it is.
 
+use crate::memory::Room;
 use std::error::Error;
 use std::fmt::{self, Display, Formatter};
 
@@ -8,7 +9,7 @@ use std::fmt::{self, Display, Formatter};
 pub enum LentError {
     /// Another number of bytes than is wanted.
     Size {
-        /// So many bytes are needed, and no more.
+        /// So many bytes are needed: exactly for tables, at least for a resolver.
         wanted: usize,
         /// So many were lent.
         given: usize,
@@ -20,6 +21,13 @@ pub enum LentError {
         /// The greatest power of two that it is a multiple of.
         given: usize,
     },
+    /// Less room than the resolver needs.
+    Room {
+        /// So much is in use, or would be.
+        wanted: Room,
+        /// So much is lent.
+        given: Room,
+    },
     /// The memory is not that of a resolver: refusal 20.
     NoResolver,
     /// The memory is that of a resolver, and a binding of it has a prefix or a namespace that is no text.
@@ -28,26 +36,20 @@ pub enum LentError {
 }
 
 impl LentError {
-    /// Whether so many bytes at an address can hold what has this size and this alignment.
-    pub(crate) fn of_place(
-        address: usize,
-        given: usize,
-        size: usize,
-        alignment: usize,
-    ) -> Result<(), Self> {
-        if given != size {
-            return Err(LentError::Size {
-                wanted: size,
-                given,
-            });
+    #[cold]
+    pub(crate) const fn size(wanted: usize, given: usize) -> Self {
+        LentError::Size { wanted, given }
+    }
+
+    /// Whether what has this alignment can stand at an address.
+    pub(crate) const fn of_address(address: usize, alignment: usize) -> Result<(), Self> {
+        if address.is_multiple_of(alignment) {
+            return Ok(());
         }
-        if !address.is_multiple_of(alignment) {
-            return Err(LentError::Alignment {
-                wanted: alignment,
-                given: 1 << address.trailing_zeros(),
-            });
-        }
-        Ok(())
+        Err(LentError::Alignment {
+            wanted: alignment,
+            given: 1 << address.trailing_zeros(),
+        })
     }
 }
 
@@ -64,6 +66,9 @@ impl Display for LentError {
                 f,
                 "the memory has to begin at a multiple of {wanted} bytes, and begins at one of {given}"
             ),
+            Self::Room { wanted, given } => {
+                write!(f, "room for {wanted} is needed, and for {given} is lent")
+            }
             Self::NoResolver => write!(f, "the memory is not that of a resolver"),
             Self::NoText(binding) => write!(
                 f,

@@ -17,11 +17,12 @@
 //! What is proved is the static library below: which attributes a tag has, where it is damaged, what a
 //! value says, which namespace a name is in, whether an element is nil. No rule stands here a second time:
 //! this crate hands the library memory and turns its numbers into Rust's types, an unknown prefix into an
-//! error where that is asked for; that is tested and not proved. Tables have fixed sizes, so a tag is read without allocating, and five
-//! refusals that quick-xml does not have say when a table is full or is none of the library's
+//! error where that is asked for; that is tested and not proved. A tag of up to 32 attributes is read without
+//! allocating, and a resolver has 1 KB and grows with what it holds. Six refusals that quick-xml does not have
+//! say when a table is full, or memory is too small or none of the library's
 //! ([`AttrError`](events::attributes::AttrError), [`NamespaceError`](name::NamespaceError)).
 //!
-//! The memory can be the caller's own: a resolver's is lent by
+//! The memory can be the caller's own: a resolver's, of any size, is lent by
 //! [`NamespaceResolver::new_in`](name::NamespaceResolver::new_in), a reader's by
 //! [`Attributes::with_tables`](events::attributes::Attributes::with_tables). Before the library is lent any
 //! it is asked for its layout, and another one than this crate's is a panic that says what differs.
@@ -37,6 +38,7 @@ mod ffi;
 mod lent;
 #[allow(unsafe_code)]
 mod library;
+mod memory;
 pub mod name;
 
 pub use lent::LentError;

@@ -1,8 +1,8 @@
 //! The functions of the static library, as `include/mezzulidda.h` has them; what each does is said there.
 //!
 //! Rust declares them here and nowhere else: the crate, the comparisons and the benchmark all take this
-//! file. A slice is a pointer and a length, two parameters. A truth value that comes back is taken as a
-//! byte, so that whatever a library answers is a value of the type.
+//! file. A slice is a pointer and a length, two parameters; `head`, `state` and `detail` are pointers alone. A
+//! truth value that comes back is taken as a byte, so that whatever a library answers is a value of the type.
 
 // whoever takes the file calls some of them
 #![allow(dead_code)]
@@ -31,28 +31,24 @@ unsafe extern "C" {
         ends: *mut usize,
         ends_len: usize,
         state: *mut usize,
-        state_len: usize,
         html: bool,
         checks: bool,
         out: *mut usize,
         out_len: usize,
     ) -> usize;
-    pub fn mz_count_by_next(tag: *const u8, tag_len: usize, html: bool, checks: bool) -> usize;
 }
 
-// The arrays of a resolver, `head` with its length; what else the call takes comes after them.
+// Text and records of a resolver with their lengths, and its head; what else the call takes comes after them.
 macro_rules! on_a_resolver {
     ($array:tt: $($name:ident($($more:ident: $kind:ty),*);)*) => {
         unsafe extern "C" { $(
             #[allow(clippy::too_many_arguments)]
             pub fn $name(
                 text: *$array u8,
-                starts: *$array usize,
-                prefix_lens: *$array usize,
-                value_lens: *$array usize,
-                levels: *$array u16,
+                text_len: usize,
+                records: *$array usize,
+                records_len: usize,
                 head: *$array usize,
-                head_len: usize,
                 $($more: $kind),*
             ) -> usize;
         )* }
@@ -61,20 +57,18 @@ macro_rules! on_a_resolver {
 on_a_resolver! { mut:
     mz_fresh();
     mz_add(named: bool, prefix: *const u8, prefix_len: usize, value: *const u8, value_len: usize,
-        detail: *mut usize, detail_len: usize);
-    mz_push(tag: *const u8, tag_len: usize, at: usize, detail: *mut usize, detail_len: usize);
+        detail: *mut usize);
+    mz_push(tag: *const u8, tag_len: usize, at: usize, detail: *mut usize);
     mz_pop();
     mz_set_level(level: u16);
 }
 on_a_resolver! { const:
-    mz_resolve(name: *const u8, name_len: usize, use_default: bool, detail: *mut usize,
-        detail_len: usize);
+    mz_resolve(name: *const u8, name_len: usize, use_default: bool, detail: *mut usize);
     mz_resolve_all(tag: *const u8, tag_len: usize, from: *const usize, from_len: usize,
         to: *const usize, to_len: usize, elements: usize, kinds: *mut usize, kinds_len: usize,
         begins: *mut usize, begins_len: usize, ends: *mut usize, ends_len: usize);
-    mz_binding(place: usize, detail: *mut usize, detail_len: usize);
-    mz_binding_of(level: u16, place: usize, detail: *mut usize, detail_len: usize);
+    mz_binding(place: usize, detail: *mut usize);
+    mz_binding_of(level: u16, place: usize, detail: *mut usize);
     mz_has_nil(tag: *const u8, tag_len: usize, key_starts: *mut usize, key_starts_len: usize,
-        key_ends: *mut usize, key_ends_len: usize, state: *mut usize, state_len: usize, html: bool,
-        checks: bool);
+        key_ends: *mut usize, key_ends_len: usize, state: *mut usize, html: bool, checks: bool);
 }

@@ -1,4 +1,4 @@
-//! What quick-xml does not have: memory of fixed sizes, its refusals, memory that is lent, and bytes.
+//! What quick-xml does not have: capacities and their refusals, memory that grows or is lent, and bytes.
 
 use mezzulidda::events::BytesStart;
 use mezzulidda::events::attributes::{
@@ -6,7 +6,9 @@ use mezzulidda::events::attributes::{
 };
 use mezzulidda::name::{
     Memory, Namespace, NamespaceError, NamespaceResolver, PrefixDeclaration, QName, ResolveResult,
+    Room,
 };
+use std::thread;
 
 fn keys(count: usize) -> String {
     (0..count).map(|n| format!(" k{n}=''")).collect()
@@ -199,10 +201,9 @@ fn room_that_a_pop_frees_is_used_again() {
 
 #[test]
 fn memory_that_is_given() {
-    let mut memory = Memory::boxed();
+    let mut memory = Memory::<100, 8>::zeros();
     for value in ["urn:a", "urn:b"] {
-        let place = std::ptr::from_ref(&*memory);
-        let mut resolver = NamespaceResolver::new_in(memory);
+        let mut resolver = NamespaceResolver::new_in(&mut memory);
         assert_eq!((resolver.level(), resolver.bindings().count()), (0, 0));
         resolver.set_max_namespace_bindings(3);
         let content = format!("a xmlns='{value}'");
@@ -213,11 +214,103 @@ fn memory_that_is_given() {
             resolver.resolve_element(QName("x")).0,
             ResolveResult::Bound(Namespace(value))
         );
-        memory = resolver.into_memory();
-        assert_eq!(std::ptr::from_ref(&*memory), place);
+        let resolver = NamespaceResolver::new_in(resolver.into_memory());
+        assert_eq!(resolver.max_namespace_bindings(), 128);
+        assert_eq!(resolver.bindings().count(), 0);
     }
-    let resolver = NamespaceResolver::new_in(memory);
-    assert_eq!(resolver.max_namespace_bindings(), 128);
+}
+
+#[test]
+fn memory_grows_with_what_it_holds() {
+    let mut resolver = NamespaceResolver::default();
+    let first = resolver.room();
+    assert!(first.text + 32 * first.bindings <= 4_096 - 32);
+    resolver.set_max_namespace_bindings(usize::MAX);
+    let mut wanted = Vec::new();
+    for n in 0..1_024 {
+        let (prefix, value) = (format!("p{n}"), format!("urn:{n}"));
+        let named = PrefixDeclaration::Named(&prefix);
+        resolver.add(named, Namespace(&value)).unwrap();
+        wanted.push((prefix, value));
+    }
+    assert_eq!(resolver.room(), Room::MOST);
+    let held = resolver
+        .bindings()
+        .zip(&wanted)
+        .all(|((prefix, value), (p, v))| {
+            prefix == PrefixDeclaration::Named(p) && value == Namespace(v)
+        });
+    assert!(held && resolver.bindings().count() == 1_024);
+    // a copy has what it needs, and what a pop frees stays with the resolver
+    let fresh = NamespaceResolver::default().copied();
+    assert_eq!(fresh.room(), first);
+    assert_eq!(format!("{:?}", resolver.copied()), format!("{resolver:?}"));
+    // one declaration as long as all the text there is
+    let mut resolver = NamespaceResolver::default();
+    let content = format!("a xmlns='{}'", "u".repeat(65_536 - 73));
+    let tag = BytesStart::from_content(content, 1);
+    resolver.push(&tag).unwrap();
+    assert_eq!(resolver.room(), Room::MOST);
+    assert_eq!(resolver.push(&tag), Err(NamespaceError::TextFull));
+    resolver.set_level(0);
+    assert_eq!(resolver.room(), Room::MOST);
+    assert_eq!(resolver.copied().room(), first);
+}
+
+#[test]
+fn more_attributes_than_there_is_room_for_inside() {
+    let mut tables = Tables::new();
+    for count in [31, 32, 33, 34, 64, 255, 256, 257, 300] {
+        let content = format!("{} k0='' k{count}=''{}", keys(count), keys(3));
+        for html in [false, true] {
+            let (own, lent): (Vec<_>, Vec<_>) = match html {
+                true => (
+                    Attributes::html(&content, 0).collect(),
+                    Attributes::html_with_tables(&content, 0, &mut tables).collect(),
+                ),
+                false => (
+                    Attributes::new(&content, 0).collect(),
+                    Attributes::with_tables(&content, 0, &mut tables).collect(),
+                ),
+            };
+            assert_eq!(own, lent);
+            // up to four keys are there twice; the 257th different one is refused, and ends it
+            let answers = match count {
+                0..256 => count + 5,
+                256 => 258,
+                _ => 257,
+            };
+            assert_eq!(own.len(), answers, "{count} keys");
+        }
+        // a copy of one that is on the heap, and one that is searched for `nil` up to its end
+        let mut attributes = Attributes::new(&content, 0);
+        attributes.by_ref().take(40).for_each(drop);
+        let copy: Vec<_> = attributes.clone().collect();
+        assert_eq!(attributes.collect::<Vec<_>>(), copy);
+        let resolver = NamespaceResolver::default();
+        assert!(!Attributes::new(&content, 0).has_nil(&resolver));
+    }
+}
+
+/// Reads a tag in each of so many levels, of which all have an iterator that isn't at its end.
+fn read_within(levels: usize, content: &str) -> usize {
+    let mut attributes = Attributes::new(content, 0);
+    let mut read = 0;
+    for attribute in &mut attributes {
+        read += attribute.unwrap().value.len();
+        if read == 1 && levels > 1 {
+            read += read_within(levels - 1, content);
+        }
+    }
+    read
+}
+
+#[test]
+fn an_iterator_for_each_of_1500_levels() {
+    let content = " a='1' b='22'".to_string();
+    let reader = thread::Builder::new().stack_size(2 << 20);
+    let read = reader.spawn(move || read_within(1_500, &content));
+    assert_eq!(read.unwrap().join().unwrap(), 3 * 1_500);
 }
 
 #[test]

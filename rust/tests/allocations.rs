@@ -1,5 +1,6 @@
-//! No tag allocates: not its attributes, not its scope, not its names. The allocator here counts. What does is
-//! the text that quick-xml's types hold, that of an unknown prefix and of a refused declaration.
+//! What allocates: a resolver with memory of its own, when it is made and when it grows, and a tag of more than
+//! 32 attributes. The allocator here counts. Beside that it is the text alone that quick-xml's types hold, that of
+//! an unknown prefix and of a refused declaration.
 
 use mezzulidda::events::BytesStart;
 use mezzulidda::events::attributes::{Attributes, Tables};
@@ -22,6 +23,12 @@ unsafe impl GlobalAlloc for Counting {
         unsafe { System.alloc(layout) }
     }
 
+    unsafe fn realloc(&self, place: *mut u8, layout: Layout, size: usize) -> *mut u8 {
+        COUNT.set(COUNT.get() + 1);
+        // SAFETY: handed on as it came.
+        unsafe { System.realloc(place, layout, size) }
+    }
+
     unsafe fn dealloc(&self, place: *mut u8, layout: Layout) {
         // SAFETY: handed on as it came.
         unsafe { System.dealloc(place, layout) }
@@ -42,7 +49,16 @@ const TAG: &str = "p:chunk xmlns='urn:a' xmlns:p='urn:p' id=\"c-17\" p:offset='0
 
 #[test]
 fn the_allocator_counts() {
-    assert_eq!(allocations(|| drop(NamespaceResolver::default())), 1);
+    assert_eq!(allocations(|| drop(NamespaceResolver::default())), 2);
+    let tag: String = (0..14).map(|n| format!(" xmlns:p{n}=''")).collect();
+    let [tag, more] = [tag.clone(), tag + " xmlns=''"].map(|tag| BytesStart::from_content(tag, 0));
+    let mut resolver = NamespaceResolver::default();
+    assert_eq!(allocations(|| resolver.push(&tag).unwrap()), 0);
+    resolver.pop();
+    // more text and more records, once
+    assert_eq!(allocations(|| resolver.push(&more).unwrap()), 2);
+    resolver.pop();
+    assert_eq!(allocations(|| resolver.push(&more).unwrap()), 0);
 }
 
 #[test]
@@ -60,10 +76,29 @@ fn attributes() {
 }
 
 #[test]
+fn many_attributes() {
+    let mut tables = Tables::new();
+    for (attributes, wanted) in [(31, 0), (32, 0), (33, 1), (256, 1)] {
+        let tag: String = (0..attributes).map(|n| format!(" k{n}=''")).collect();
+        let mut read = 0;
+        let own = allocations(|| read += Attributes::new(&tag, 0).count());
+        let lent = allocations(|| read += Attributes::with_tables(&tag, 0, &mut tables).count());
+        assert_eq!((read, own, lent), (2 * attributes, wanted, 0));
+        // a key that came before needs no place, nor does any where none is recorded
+        let again = tag + " k0=''";
+        let count = allocations(|| read += Attributes::new(&again, 0).count());
+        assert_eq!(count, wanted);
+        let mut unchecked = Attributes::new(&again, 0);
+        unchecked.with_checks(false);
+        assert_eq!(allocations(|| read += unchecked.count()), 0);
+    }
+}
+
+#[test]
 fn scopes() {
     let tag = BytesStart::from_content(TAG, 7);
     let keys: Vec<_> = tag.attributes().flatten().map(|a| a.key).collect();
-    let mut memory = Memory::new();
+    let mut memory = Memory::<120, 5>::zeros();
     let mut bound = 0;
     let count = allocations(|| {
         let mut resolver = NamespaceResolver::new_in(&mut memory);

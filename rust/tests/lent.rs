@@ -1,10 +1,11 @@
-//! Memory that is lent: where it stands, what it has to be, and any content of it.
+//! Memory that is lent: where it stands, how large it is, and any content of it.
 
 use mezzulidda::LentError;
 use mezzulidda::events::BytesStart;
 use mezzulidda::events::attributes::{Attributes, ByteAttributes, Tables};
 use mezzulidda::name::{
-    Holder, Memory, Namespace, NamespaceResolver, PrefixDeclaration, QName, ResolveResult,
+    Holder, Lent, Memory, Namespace, NamespaceError, NamespaceResolver, PrefixDeclaration, QName,
+    ResolveResult, Room,
 };
 use std::mem::MaybeUninit;
 use std::sync::Mutex;
@@ -19,55 +20,67 @@ impl<const N: usize> Aligned<N> {
     }
 }
 
-/// The parts of a resolver's memory, one behind the other, and the text of the built-in bindings.
+/// The capacities, and the text of the built-in bindings.
 const TEXT: usize = 65_536;
 const RECORDS: usize = 1_026;
-const STARTS: usize = TEXT;
-const PREFIX_LENS: usize = STARTS + 8 * RECORDS;
-const VALUE_LENS: usize = PREFIX_LENS + 8 * RECORDS;
-const HEAD: usize = VALUE_LENS + 8 * RECORDS;
-const LEVELS: usize = HEAD + 8 * 4;
 const BUILT_IN: &[u8] =
     b"xmlhttp://www.w3.org/XML/1998/namespacexmlnshttp://www.w3.org/2000/xmlns/";
 
-fn number(memory: &[u8], part: usize, index: usize) -> usize {
-    let from = part + 8 * index;
-    usize::from_ne_bytes(memory[from..from + 8].try_into().unwrap())
+/// Bytes that are lent: first four numbers for the head, then four for each record, then text.
+#[derive(Clone, Copy)]
+struct Parts<'b> {
+    bytes: &'b [u8],
+    room: Room,
 }
 
-fn level(memory: &[u8], index: usize) -> usize {
-    let from = LEVELS + 2 * index;
-    u16::from_ne_bytes(memory[from..from + 2].try_into().unwrap()).into()
-}
-
-/// Rule 20, sentence by sentence.
-fn is_resolver(memory: &[u8]) -> bool {
-    let [used, count, nesting] = [0, 1, 2].map(|index| number(memory, HEAD, index));
-    if used > TEXT || !(2..=RECORDS).contains(&count) || nesting > 65_535 {
-        return false;
+impl<'b> Parts<'b> {
+    fn number(self, index: usize) -> usize {
+        let from = 8 * index;
+        usize::from_ne_bytes(self.bytes[from..from + 8].try_into().unwrap())
     }
-    let record = |index| {
-        let lens = [PREFIX_LENS, VALUE_LENS].map(|part| number(memory, part, index));
-        (number(memory, STARTS, index), lens, level(memory, index))
-    };
-    let built_in = memory.starts_with(BUILT_IN)
-        && record(0) == (0, [3, 36], 0)
-        && record(1) == (39, [5, 29], 0);
-    let (mut end, mut before) = (0, 0);
-    for index in 0..count {
-        let (start, [prefix, value], level) = record(index);
-        let (Some(next), true) = (prefix.checked_add(value), start == end) else {
-            return false;
-        };
-        if level < before || level > nesting || next > TEXT - end {
+
+    fn record(self, index: usize) -> [usize; 4] {
+        match index < self.room.bindings {
+            true => [0, 1, 2, 3].map(|part| self.number(4 + 4 * index + part)),
+            false => [0; 4],
+        }
+    }
+
+    fn text(self) -> &'b [u8] {
+        &self.bytes[32 + 32 * self.room.bindings..][..self.room.text]
+    }
+
+    /// Rule 20, sentence by sentence; what isn't lent is unused and zero.
+    fn is_resolver(self) -> bool {
+        let [used, count, nesting] = [0, 1, 2].map(|index| self.number(index));
+        if used > TEXT || !(2..=RECORDS).contains(&count) || nesting > 65_535 {
             return false;
         }
-        (end, before) = (end + next, level);
+        let built_in = self.text().starts_with(BUILT_IN)
+            && self.record(0) == [0, 3, 36, 0]
+            && self.record(1) == [39, 5, 29, 0];
+        let (mut end, mut before) = (0, 0);
+        for index in 0..count {
+            let [start, prefix, value, level] = self.record(index);
+            let (Some(next), true) = (prefix.checked_add(value), start == end) else {
+                return false;
+            };
+            if level < before || level > nesting || next > TEXT - end {
+                return false;
+            }
+            (end, before) = (end + next, level);
+        }
+        built_in
+            && end == used
+            && self.text().iter().skip(used).all(|byte| *byte == 0)
+            && (count..self.room.bindings).all(|index| self.record(index) == [0; 4])
     }
-    built_in
-        && end == used
-        && memory[used..TEXT].iter().all(|byte| *byte == 0)
-        && (count..RECORDS).all(|index| record(index) == (0, [0, 0], 0))
+
+    /// Whether less is lent than its head says is in use, which still could be a resolver's.
+    fn is_cut(self) -> bool {
+        let [used, count] = [0, 1].map(|index| self.number(index));
+        used <= TEXT && count <= RECORDS && (used > self.room.text || count > self.room.bindings)
+    }
 }
 
 /// Numbers of a fixed sequence.
@@ -97,22 +110,56 @@ fn used<M: Holder>(resolver: &mut NamespaceResolver<M>) -> String {
     shown + &format!("{resolver:?}")
 }
 
+/// What `used` needs: three bindings beyond the built-in ones, `urn:a`, `purn:p` and `qurn:q`.
+const NEEDED: Room = Room {
+    text: 73 + 5 + 6 + 6,
+    bindings: 5,
+};
+
 #[test]
-fn the_same_in_a_box_in_a_static_on_the_stack_and_in_bytes() {
+fn the_same_on_the_heap_in_a_static_on_the_stack_and_in_bytes() {
     static MEMORY: Mutex<Memory> = Mutex::new(Memory::new());
+    static SMALL: Mutex<Memory<{ NEEDED.text }, { NEEDED.bindings }>> = Mutex::new(Memory::zeros());
     let wanted = used(&mut NamespaceResolver::default());
     let mut memory = MEMORY.lock().unwrap();
     assert_eq!(used(&mut NamespaceResolver::new_in(&mut *memory)), wanted);
-    let mut memory = Memory::new();
+    let mut memory = SMALL.lock().unwrap();
+    assert_eq!(used(&mut NamespaceResolver::new_in(&mut *memory)), wanted);
+    let mut memory = Memory::<200, 7>::zeros();
     assert_eq!(used(&mut NamespaceResolver::new_in(&mut memory)), wanted);
     assert_eq!(used(&mut NamespaceResolver::new_in(&mut memory)), wanted);
-    let mut bytes = Aligned::<{ Memory::SIZE }>::zeros();
-    bytes.0.fill(0x5a);
-    let memory = Memory::from_bytes(&mut bytes.0).unwrap();
-    assert_eq!(used(&mut NamespaceResolver::new_in(memory)), wanted);
-    assert!(is_resolver(&bytes.0));
-    let lent: &'static mut Memory = Box::leak(Memory::boxed());
-    assert_eq!(used(&mut NamespaceResolver::new_in(lent)), wanted);
+    for given in [640, 1_024, 4_096, Lent::MOST, Lent::MOST + 8] {
+        let mut bytes = Aligned::<{ Lent::MOST + 8 }>::zeros();
+        bytes.0.fill(0x5a);
+        let memory = Lent::from_bytes(&mut bytes.0[..given]).unwrap();
+        let room = memory.room();
+        assert_eq!(used(&mut NamespaceResolver::new_in(memory)), wanted);
+        let parts = Parts {
+            bytes: &bytes.0,
+            room,
+        };
+        assert!(parts.is_resolver());
+        assert!(bytes.0[given.min(Lent::MOST)..].iter().all(|b| *b == 0x5a));
+    }
+}
+
+#[test]
+fn bytes_have_room_for_text_and_bindings() {
+    let mut bytes = Aligned::<{ Lent::MOST + 8 }>::zeros();
+    let mut room = |given| Lent::from_bytes(&mut bytes.0[..given]).unwrap().room();
+    assert_eq!(room(Lent::LEAST), Room::LEAST);
+    assert_eq!(room(Lent::MOST), Room::MOST);
+    assert_eq!(room(Lent::MOST + 8), Room::MOST);
+    let (text, bindings) = (640, 11);
+    assert_eq!(room(1_024), Room { text, bindings });
+    let mut before = Room::LEAST;
+    for given in Lent::LEAST..=Lent::MOST {
+        let room = room(given);
+        // nothing is left over, and more bytes are never less room for bindings
+        assert_eq!(32 + 32 * room.bindings + room.text, given);
+        assert!(room.bindings >= before.bindings);
+        before = room;
+    }
 }
 
 #[test]
@@ -122,35 +169,121 @@ fn a_copy_and_a_resumed_one_are_the_same() {
     resolver.push(&tag).unwrap();
     resolver.set_max_namespace_bindings(7);
     let shown = format!("{resolver:?}");
-    let mut other = Memory::new();
-    assert_eq!(format!("{:?}", resolver.copy_in(&mut other)), shown);
+    let mut other = Memory::<84, 4>::zeros();
+    let copy = resolver.copy_in(&mut other).unwrap();
+    assert_eq!(format!("{copy:?}"), shown);
     let resumed = NamespaceResolver::resume_in(&mut other).unwrap();
     assert_eq!(format!("{resumed:?}"), shown);
-    let mut resumed = NamespaceResolver::resume_in(resolver.into_memory()).unwrap();
+    let resumed = NamespaceResolver::resume_in(resumed.into_memory()).unwrap();
     assert_eq!(format!("{resumed:?}"), shown);
     // a copy is apart
-    let cloned = resumed.clone();
-    resumed.pop();
+    let mut larger = Memory::<300, 5>::zeros();
+    let mut copy = NamespaceResolver::new_in(&mut larger);
+    used(&mut copy);
+    let mut copy = resumed.copy_in(copy.into_memory()).unwrap();
+    let cloned = resumed.copied();
+    copy.pop();
+    assert_eq!(copy.bindings().count(), 0);
+    assert_eq!(format!("{resumed:?}"), shown);
     assert_eq!(format!("{cloned:?}"), shown);
-    assert_eq!(resumed.bindings().count(), 0);
+    // no room for it
+    let wanted = Room {
+        text: 84,
+        bindings: 4,
+    };
+    for (text, bindings) in [(83, 4), (84, 3)] {
+        let mut bytes = Aligned::<{ Lent::LEAST }>::zeros();
+        let given = Room { text, bindings };
+        let refused = match text {
+            83 => {
+                let mut memory = Memory::<83, 4>::zeros();
+                resumed.copy_in(&mut memory).err()
+            }
+            _ => {
+                let mut memory = Memory::<84, 3>::zeros();
+                resumed.copy_in(&mut memory).err()
+            }
+        };
+        assert_eq!(refused, Some(LentError::Room { wanted, given }));
+        let given = Room::LEAST;
+        let refused = resumed.copy_in(Lent::from_bytes(&mut bytes.0).unwrap());
+        assert_eq!(refused.err(), Some(LentError::Room { wanted, given }));
+    }
+}
+
+/// What `used` gives in memory of so much room, which it says is too little or enough.
+fn used_within<const T: usize, const B: usize>() -> (String, bool) {
+    let mut memory = Memory::<T, B>::zeros();
+    let mut resolver = NamespaceResolver::new_in(&mut memory);
+    let shown = used(&mut resolver);
+    let enough = !shown.contains("LentMemoryFull");
+    (shown, enough)
 }
 
 #[test]
-fn another_number_of_bytes() {
-    let mut bytes = Aligned::<{ Memory::SIZE + 8 }>::zeros();
-    for given in [
-        0,
-        1,
-        8,
-        Memory::SIZE - 8,
-        Memory::SIZE - 1,
-        Memory::SIZE + 1,
-        Memory::SIZE + 8,
-    ] {
-        let refused = Memory::from_bytes(&mut bytes.0[..given]).err();
-        let wanted = Memory::SIZE;
+fn memory_that_is_one_byte_or_one_binding_short() {
+    let wanted = used(&mut NamespaceResolver::default());
+    const T: usize = NEEDED.text;
+    const B: usize = NEEDED.bindings;
+    assert_eq!(used_within::<T, B>(), (wanted.clone(), true));
+    assert_eq!(used_within::<{ T + 1 }, { B + 1 }>(), (wanted, true));
+    assert!(!used_within::<{ T - 1 }, B>().1);
+    assert!(!used_within::<T, { B - 1 }>().1);
+
+    // a push that has room for its first declaration alone changes nothing, and says what it wants
+    let mut memory = Memory::<{ T - 7 }, B>::zeros();
+    let mut resolver = NamespaceResolver::new_in(&mut memory);
+    let tag = BytesStart::from_content("a xmlns='urn:a' xmlns:p='urn:p'", 1);
+    let wanted = Room {
+        text: T - 6,
+        bindings: 4,
+    };
+    let given = Room {
+        text: T - 7,
+        bindings: B,
+    };
+    let refused = NamespaceError::LentMemoryFull { wanted, given };
+    assert_eq!(resolver.push(&tag), Err(refused.clone()));
+    assert_eq!((resolver.level(), resolver.bindings().count()), (0, 0));
+    assert_eq!(
+        refused.to_string(),
+        "room for 84 bytes of text and 4 bindings is needed, and for 83 bytes of text and 5 bindings is lent"
+    );
+    let named = PrefixDeclaration::Named("p");
+    let text = "u".repeat(10);
+    assert_eq!(
+        resolver.add(named, Namespace(&text)),
+        Err(NamespaceError::LentMemoryFull {
+            wanted: Room {
+                text: 84,
+                bindings: 3
+            },
+            given,
+        })
+    );
+    assert_eq!(resolver.add(named, Namespace(&text[1..])), Ok(()));
+    // what is refused whatever the memory is comes first
+    let long = "u".repeat(TEXT);
+    assert_eq!(
+        resolver.add(named, Namespace(&long)),
+        Err(NamespaceError::TextFull)
+    );
+    resolver.set_max_namespace_bindings(1);
+    assert_eq!(
+        resolver.add(named, Namespace(&text)),
+        Err(NamespaceError::TooManyBindings(1))
+    );
+}
+
+#[test]
+fn too_few_bytes() {
+    let mut bytes = Aligned::<{ Lent::LEAST }>::zeros();
+    for given in [0, 1, 8, Lent::LEAST - 8, Lent::LEAST - 1] {
+        let refused = Lent::from_bytes(&mut bytes.0[..given]).err();
+        let wanted = Lent::LEAST;
         assert_eq!(refused, Some(LentError::Size { wanted, given }));
     }
+    assert!(Lent::from_bytes(&mut bytes.0).is_ok());
     let mut room = [MaybeUninit::uninit(); Tables::SIZE + 1];
     for given in [0, 1, Tables::SIZE - 1, Tables::SIZE + 1] {
         let refused = Tables::from_bytes(&mut room[..given]).err();
@@ -158,24 +291,24 @@ fn another_number_of_bytes() {
         assert_eq!(refused, Some(LentError::Size { wanted, given }));
     }
     let refused = LentError::Size {
-        wanted: 92_248,
+        wanted: 169,
         given: 0,
     };
-    assert_eq!(Memory::from_bytes(&mut []).err(), Some(refused));
+    assert_eq!(Lent::from_bytes(&mut []).err(), Some(refused));
     assert_eq!(
         refused.to_string(),
-        "92248 bytes of memory are needed, and 0 are lent"
+        "169 bytes of memory are needed, and 0 are lent"
     );
 }
 
 #[test]
 fn another_alignment() {
-    let mut bytes = Aligned::<{ Memory::SIZE + 8 }>::zeros();
+    let mut bytes = Aligned::<{ Lent::LEAST + 8 }>::zeros();
     for (from, given) in [(1, 1), (2, 2), (3, 1), (4, 4), (5, 1), (6, 2), (7, 1)] {
-        let refused = Memory::from_bytes(&mut bytes.0[from..from + Memory::SIZE]).err();
+        let refused = Lent::from_bytes(&mut bytes.0[from..from + Lent::LEAST]).err();
         assert_eq!(refused, Some(LentError::Alignment { wanted: 8, given }));
     }
-    assert!(Memory::from_bytes(&mut bytes.0[8..]).is_ok());
+    assert!(Lent::from_bytes(&mut bytes.0[8..]).is_ok());
     let mut room = [MaybeUninit::uninit(); Tables::SIZE + 8];
     let from = room.as_ptr().align_offset(8);
     for more in 1..8 {
@@ -196,45 +329,61 @@ fn another_alignment() {
     );
 }
 
-/// Lends memory as it is. What is refused is no resolver by rule 20 or no text, and is left alone; what is
-/// kept can be used. The answer is whether it was kept.
-fn lend(bytes: &mut Aligned<{ Memory::SIZE }>) -> bool {
-    let before = bytes.0;
-    let memory = Memory::from_bytes(&mut bytes.0).unwrap();
-    let refused = NamespaceResolver::resume_in(&mut *memory).err();
-    match refused {
-        Some(LentError::NoResolver) => assert!(!is_resolver(&before)),
-        Some(LentError::NoText(_)) => assert!(is_resolver(&before) && !before[..TEXT].is_ascii()),
-        Some(refused) => panic!("{refused}"),
-        None => {
-            assert!(is_resolver(&before));
-            let resolver = NamespaceResolver::resume_in(&mut *memory).unwrap();
-            used(&mut resolver.copy_in(Memory::boxed()));
+/// Lends memory as it is. What is refused is no resolver by rule 20, cut off or no text, and is left alone; what
+/// is kept can be used. The answer is whether it was kept.
+fn lend(bytes: &mut [u8]) -> bool {
+    let before = bytes.to_vec();
+    let memory = Lent::from_bytes(bytes).unwrap();
+    let parts = Parts {
+        bytes: &before,
+        room: memory.room(),
+    };
+    let kept = match NamespaceResolver::resume_in(memory) {
+        Err(LentError::NoResolver) => {
+            assert!(!parts.is_resolver() && !parts.is_cut());
+            false
         }
-    }
-    assert!(bytes.0 == before, "looking at memory leaves it as it was");
-    refused.is_none()
+        Err(LentError::Room { .. }) => {
+            assert!(parts.is_cut());
+            false
+        }
+        Err(LentError::NoText(_)) => {
+            assert!(parts.is_resolver() && !parts.text().is_ascii());
+            false
+        }
+        Err(refused) => panic!("{refused}"),
+        Ok(resolver) => {
+            assert!(parts.is_resolver() && !parts.is_cut());
+            used(&mut resolver.copied());
+            true
+        }
+    };
+    assert!(bytes == before, "looking at memory leaves it as it was");
+    kept
 }
 
 #[test]
 fn memory_of_any_content() {
     let mut drawn = Drawn(42_006);
-    let mut bytes = Aligned::<{ Memory::SIZE }>::zeros();
-    assert!(!lend(&mut bytes));
-    for fill in [0x01, 0x5a, 0x7f, 0x80, 0xff] {
-        bytes.0.fill(fill);
-        assert!(!lend(&mut bytes));
-    }
-    for _ in 0..20 {
-        bytes.0.fill_with(|| drawn.below(256) as u8);
-        assert!(!lend(&mut bytes));
+    let mut bytes = Aligned::<{ Lent::MOST }>::zeros();
+    for given in [Lent::LEAST, 1_024, Lent::MOST] {
+        let bytes = &mut bytes.0[..given];
+        bytes.fill(0);
+        assert!(!lend(bytes));
+        for fill in [0x01, 0x5a, 0x7f, 0x80, 0xff] {
+            bytes.fill(fill);
+            assert!(!lend(bytes));
+        }
+        for _ in 0..20 {
+            bytes.fill_with(|| drawn.below(256) as u8);
+            assert!(!lend(bytes));
+        }
     }
 }
 
 /// A resolver with three tags pushed.
-fn of_three_tags() -> Box<Aligned<{ Memory::SIZE }>> {
-    let mut bytes = Aligned::zeros();
-    let memory = Memory::from_bytes(&mut bytes.0).unwrap();
+fn of_three_tags(bytes: &mut [u8]) {
+    let memory = Lent::from_bytes(bytes).unwrap();
     let mut resolver = NamespaceResolver::new_in(memory);
     for content in [
         "a xmlns='urn:a' xmlns:p='urn:p'",
@@ -244,54 +393,78 @@ fn of_three_tags() -> Box<Aligned<{ Memory::SIZE }>> {
         let tag = BytesStart::from_content(content, 1);
         resolver.push(&tag).unwrap();
     }
-    bytes
 }
 
 #[test]
 fn memory_of_a_resolver_with_a_byte_or_two_changed() {
-    // most of the changes are made where memory is in use
-    const PARTS: [usize; 8] = [
-        0,
-        STARTS,
-        PREFIX_LENS,
-        VALUE_LENS,
-        HEAD,
-        LEVELS,
-        TEXT - 96,
-        HEAD - 96,
-    ];
     let mut drawn = Drawn(42_007);
-    let mut bytes = of_three_tags();
-    let good = bytes.0;
-    let mut kept = 0;
-    for round in 0..1_500 {
-        bytes.0 = good;
-        for _ in 0..=round % 2 {
-            let at = PARTS[drawn.below(PARTS.len())] + drawn.below(96);
-            bytes.0[at] = match round % 3 {
-                0 => drawn.below(256) as u8,
-                _ => bytes.0[at] ^ (1 << drawn.below(8)),
-            };
+    let mut bytes = Aligned::<{ Lent::MOST }>::zeros();
+    for given in [549, 1_000, 4_096, Lent::MOST] {
+        let bytes = &mut bytes.0[..given];
+        of_three_tags(bytes);
+        let good = bytes.to_vec();
+        assert!(lend(bytes));
+        // most of the changes are made where memory is in use, or right behind it
+        let rows = Lent::from_bytes(bytes).unwrap().room().bindings;
+        let parts = [0, 32, 64, 128, 32 + 32 * rows, 80 + 32 * rows, given - 96];
+        let mut kept = 0;
+        for round in 0..600 {
+            bytes.copy_from_slice(&good);
+            for _ in 0..=round % 2 {
+                let at = (parts[drawn.below(parts.len())] + drawn.below(96)).min(given - 1);
+                bytes[at] = match round % 3 {
+                    0 => drawn.below(256) as u8,
+                    _ => bytes[at] ^ (1 << drawn.below(8)),
+                };
+            }
+            kept += usize::from(lend(bytes));
         }
-        kept += usize::from(lend(&mut bytes));
+        // some of both: another limit, a deeper level or other text still is a resolver
+        assert!((10..400).contains(&kept), "{kept} kept of {given} bytes");
     }
-    // some of both: another limit, a deeper level or other text still is a resolver
-    assert!((20..1_000).contains(&kept), "{kept} kept");
+}
+
+#[test]
+fn a_resolver_that_is_cut_off() {
+    let mut bytes = Aligned::<1_024>::zeros();
+    of_three_tags(&mut bytes.0);
+    let mut memory = Memory::<512, 6>::zeros();
+    let resolver = NamespaceResolver::resume_in(Lent::from_bytes(&mut bytes.0).unwrap()).unwrap();
+    let copy = resolver.copy_in(&mut memory).unwrap();
+    assert_eq!(format!("{copy:?}"), format!("{resolver:?}"));
+    // fewer bytes have their text elsewhere, and fewer records than are in use
+    let refused =
+        NamespaceResolver::resume_in(Lent::from_bytes(&mut bytes.0[..360]).unwrap()).err();
+    let (wanted, given) = match refused {
+        Some(LentError::Room { wanted, given }) => (wanted, given),
+        other => panic!("{other:?}"),
+    };
+    assert_eq!((wanted.text, wanted.bindings), (90, 6));
+    assert_eq!((given.text, given.bindings), (200, 4));
+    assert_eq!(
+        refused.unwrap().to_string(),
+        "room for 90 bytes of text and 6 bindings is needed, and for 200 bytes of text and 4 bindings is lent"
+    );
 }
 
 #[test]
 fn a_resolver_whose_binding_is_no_text() {
-    let mut bytes = Aligned::<{ Memory::SIZE }>::zeros();
-    let memory = Memory::from_bytes(&mut bytes.0).unwrap();
+    let mut bytes = Aligned::<{ Lent::MOST }>::zeros();
+    let memory = Lent::from_bytes(&mut bytes.0).unwrap();
+    let room = memory.room();
     let mut resolver = NamespaceResolver::new_in(memory);
     resolver
         .add(PrefixDeclaration::Named("p"), Namespace("é"))
         .unwrap();
-    // the prefix takes the first byte of the character
-    bytes.0[PREFIX_LENS + 16] += 1;
-    bytes.0[VALUE_LENS + 16] -= 1;
-    assert!(is_resolver(&bytes.0));
-    let memory = Memory::from_bytes(&mut bytes.0).unwrap();
+    // the prefix takes the first byte of the character: record 2, its second and third number
+    bytes.0[32 + 64 + 8] += 1;
+    bytes.0[32 + 64 + 16] -= 1;
+    let parts = Parts {
+        bytes: &bytes.0,
+        room,
+    };
+    assert!(parts.is_resolver());
+    let memory = Lent::from_bytes(&mut bytes.0).unwrap();
     let refused = NamespaceResolver::resume_in(memory).err();
     assert_eq!(refused, Some(LentError::NoText(2)));
     assert_eq!(
@@ -354,7 +527,7 @@ fn nothing_at_all_everywhere() {
         (None, None)
     );
     assert!(!QName(":").prefix().unwrap().is_xml() && !QName(":").prefix().unwrap().is_xmlns());
-    let mut memory = Memory::new();
+    let mut memory = Memory::<73, 4>::zeros();
     let mut resolver = NamespaceResolver::new_in(&mut memory);
     let empty = BytesStart::new("");
     resolver.push(&empty).unwrap();

@@ -1,14 +1,21 @@
 //! The attributes of a tag, one after another.
 
-use crate::ffi::{self, Answer, BATCH, Memory};
+use crate::ffi::{self, Ahead, Answer, BATCH, Reads};
+use crate::memory::View;
 use crate::name::{Holder, NamespaceResolver, QName};
-use std::borrow::{BorrowMut, Cow};
+use std::borrow::Cow;
 use std::error::Error;
 use std::fmt::{self, Debug, Display, Formatter};
 use std::iter::FusedIterator;
 use std::ops::Range;
 
-pub use crate::ffi::Tables;
+pub use crate::ffi::{Inside, Tables};
+
+/// What reading a tag is kept in: the iterator's own memory, or lent tables. No other type has it.
+pub trait Kept: Reads {}
+
+impl Kept for Inside {}
+impl Kept for &mut Tables {}
 
 /// An attribute: its key, and its value as it stands in the tag.
 #[derive(Clone, Debug, Eq, PartialEq)]
@@ -203,26 +210,26 @@ struct IterState<T> {
     /// So many of the answers read ahead were taken, and whether none follow them.
     taken: usize,
     ended: bool,
-    tables: T,
+    kept: T,
 }
 
-impl<T: BorrowMut<Tables>> IterState<T> {
+impl<T: Kept> IterState<T> {
     #[inline]
-    const fn new(tables: T, html: bool) -> Self {
+    const fn new(kept: T, html: bool) -> Self {
         IterState {
             html,
             check_duplicates: true,
             taken: 0,
             ended: false,
-            tables,
+            kept,
         }
     }
 
     /// Answers that were read ahead under the other setting and not taken are read anew.
     fn with_checks(&mut self, tag: &[u8], val: bool) {
-        let tables = self.tables.borrow_mut();
-        if val != self.check_duplicates && self.taken < tables.filled() {
-            tables.read_again(tag, self.html, self.check_duplicates, self.taken);
+        if val != self.check_duplicates && self.taken < self.kept.ahead().filled() {
+            self.kept
+                .read_again(tag, self.html, self.check_duplicates, self.taken);
             self.ended = false;
         }
         self.check_duplicates = val;
@@ -230,30 +237,29 @@ impl<T: BorrowMut<Tables>> IterState<T> {
 
     #[inline]
     fn next(&mut self, tag: &[u8]) -> Option<AttrResult<Range<usize>>> {
-        let tables = self.tables.borrow_mut();
-        if self.taken == tables.filled() {
+        if self.taken == self.kept.ahead().filled() {
             if self.ended {
                 return None;
             }
-            let read = tables.read(tag, self.html, self.check_duplicates, BATCH);
+            let read = self.kept.read(tag, self.html, self.check_duplicates, BATCH);
             self.taken = 0;
             self.ended = read < BATCH;
             if read == 0 {
                 return None;
             }
         }
-        let answer = tables.answer(self.taken);
+        let answer = self.kept.ahead().answer(self.taken);
         self.taken += 1;
         Some(answered(answer))
     }
 
     /// The search goes on behind the answers that were taken: those read ahead are not among them.
-    fn has_nil(&mut self, tag: &[u8], memory: &Memory) -> bool {
-        let tables = self.tables.borrow_mut();
-        if self.taken < tables.filled() {
-            tables.read_again(tag, self.html, self.check_duplicates, self.taken);
+    fn has_nil(&mut self, tag: &[u8], memory: View) -> bool {
+        if self.taken < self.kept.ahead().filled() {
+            self.kept
+                .read_again(tag, self.html, self.check_duplicates, self.taken);
         }
-        let answer = memory.has_nil(tag, tables, self.html, self.check_duplicates);
+        let answer = memory.has_nil(tag, &mut self.kept, self.html, self.check_duplicates);
         (self.taken, self.ended) = (0, false);
         match answer {
             0 => false,
@@ -294,11 +300,11 @@ fn refused(number: usize, a: usize, b: usize) -> AttrError {
 
 /// The attributes of a tag, and what is wrong in it, in the order in which they stand.
 ///
-/// The memory for recorded keys (4 KB) is inside, so that nothing is allocated, and isn't cleared. Where
-/// many tags are read it can be lent instead ([`with_tables`](Attributes::with_tables)); the iterator is
-/// small then and is moved at no cost.
+/// The memory for the keys of 32 attributes is inside, less than 1 KB in all; a tag with more gets its places
+/// on the heap. It can be lent instead ([`with_tables`](Attributes::with_tables)): no tag allocates then, and
+/// the iterator is small and is moved at no cost.
 #[derive(Clone)]
-pub struct Attributes<'a, T = Tables> {
+pub struct Attributes<'a, T = Inside> {
     buf: &'a str,
     state: IterState<T>,
 }
@@ -318,7 +324,7 @@ impl<'a> Attributes<'a> {
     /// ```
     #[inline]
     pub const fn new(buf: &'a str, pos: usize) -> Self {
-        let state = IterState::new(Tables::opened(pos), false);
+        let state = IterState::new(Inside::opened(pos), false);
         Attributes { buf, state }
     }
 
@@ -333,7 +339,7 @@ impl<'a> Attributes<'a> {
     /// ```
     #[inline]
     pub const fn html(buf: &'a str, pos: usize) -> Self {
-        let state = IterState::new(Tables::opened(pos), true);
+        let state = IterState::new(Inside::opened(pos), true);
         Attributes { buf, state }
     }
 }
@@ -368,7 +374,7 @@ impl<'a, 't> Attributes<'a, &'t mut Tables> {
     }
 }
 
-impl<T: BorrowMut<Tables>> Attributes<'_, T> {
+impl<T: Kept> Attributes<'_, T> {
     /// Whether keys are recorded and a second one of the same name is refused. They are, unless told
     /// otherwise; a change holds for what has not been handed out yet.
     pub fn with_checks(&mut self, val: bool) -> &mut Self {
@@ -383,7 +389,7 @@ impl<T: BorrowMut<Tables>> Attributes<'_, T> {
     }
 }
 
-impl<'a, T: BorrowMut<Tables>> Iterator for Attributes<'a, T> {
+impl<'a, T: Kept> Iterator for Attributes<'a, T> {
     type Item = Result<Attribute<'a>, AttrError>;
 
     /// # Panics
@@ -396,15 +402,15 @@ impl<'a, T: BorrowMut<Tables>> Iterator for Attributes<'a, T> {
     }
 }
 
-impl<T: BorrowMut<Tables>> FusedIterator for Attributes<'_, T> {}
+impl<T: Kept> FusedIterator for Attributes<'_, T> {}
 
-impl<T: BorrowMut<Tables>> Debug for Attributes<'_, T> {
+impl<T: Kept> Debug for Attributes<'_, T> {
     fn fmt(&self, f: &mut Formatter) -> fmt::Result {
         f.debug_struct("Attributes")
             .field("buf", &self.buf)
             .field("html", &self.state.html)
             .field("checks", &self.state.check_duplicates)
-            .field("tables", self.state.tables.borrow())
+            .field("read", &Shown(self.state.kept.ahead()))
             .finish()
     }
 }
@@ -419,7 +425,7 @@ impl<T: BorrowMut<Tables>> Debug for Attributes<'_, T> {
 /// assert_eq!(attributes.next(), None);
 /// ```
 #[derive(Clone)]
-pub struct ByteAttributes<'a, T = Tables> {
+pub struct ByteAttributes<'a, T = Inside> {
     buf: &'a [u8],
     state: IterState<T>,
 }
@@ -428,14 +434,14 @@ impl<'a> ByteAttributes<'a> {
     /// Reads a tag from `pos` on in XML mode.
     #[inline]
     pub const fn new(buf: &'a [u8], pos: usize) -> Self {
-        let state = IterState::new(Tables::opened(pos), false);
+        let state = IterState::new(Inside::opened(pos), false);
         ByteAttributes { buf, state }
     }
 
     /// Reads a tag from `pos` on in HTML mode.
     #[inline]
     pub const fn html(buf: &'a [u8], pos: usize) -> Self {
-        let state = IterState::new(Tables::opened(pos), true);
+        let state = IterState::new(Inside::opened(pos), true);
         ByteAttributes { buf, state }
     }
 }
@@ -458,7 +464,7 @@ impl<'a, 't> ByteAttributes<'a, &'t mut Tables> {
     }
 }
 
-impl<T: BorrowMut<Tables>> ByteAttributes<'_, T> {
+impl<T: Kept> ByteAttributes<'_, T> {
     /// As [`Attributes::with_checks`].
     pub fn with_checks(&mut self, val: bool) -> &mut Self {
         self.state.with_checks(self.buf, val);
@@ -466,7 +472,7 @@ impl<T: BorrowMut<Tables>> ByteAttributes<'_, T> {
     }
 }
 
-impl<'a, T: BorrowMut<Tables>> Iterator for ByteAttributes<'a, T> {
+impl<'a, T: Kept> Iterator for ByteAttributes<'a, T> {
     type Item = Result<Attr<&'a [u8]>, AttrError>;
 
     #[inline]
@@ -476,7 +482,7 @@ impl<'a, T: BorrowMut<Tables>> Iterator for ByteAttributes<'a, T> {
     }
 }
 
-impl<T: BorrowMut<Tables>> FusedIterator for ByteAttributes<'_, T> {}
+impl<T: Kept> FusedIterator for ByteAttributes<'_, T> {}
 
 impl Default for Tables {
     fn default() -> Self {
@@ -484,19 +490,37 @@ impl Default for Tables {
     }
 }
 
-impl Debug for Tables {
+/// How far a tag was read, in words.
+struct Shown<'t>(&'t Ahead);
+
+impl Debug for Shown<'_> {
     fn fmt(&self, f: &mut Formatter) -> fmt::Result {
-        let [kind, position, recorded] = self.state();
+        let [kind, position, recorded, _] = self.0.state();
         let place = match kind {
             0 => "done",
             1 => "next",
             2 => "skip value",
             _ => "skip from `=`",
         };
-        f.debug_struct("Tables")
+        f.debug_struct("Read")
             .field("place", &format_args!("{place}({position})"))
             .field("recorded", &recorded)
-            .field("read_ahead", &self.filled())
+            .field("ahead", &self.0.filled())
             .finish()
     }
 }
+
+impl Debug for Tables {
+    fn fmt(&self, f: &mut Formatter) -> fmt::Result {
+        Shown(&self.ahead).fmt(f)
+    }
+}
+
+impl Debug for Inside {
+    fn fmt(&self, f: &mut Formatter) -> fmt::Result {
+        Shown(&self.ahead).fmt(f)
+    }
+}
+
+// An iterator stands on the stack, one for each open tag where a program goes from tag to tag by recursion.
+const _: () = assert!(size_of::<Attributes>() <= 1_000);

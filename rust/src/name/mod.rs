@@ -9,8 +9,8 @@ use std::fmt::{self, Debug, Display, Formatter};
 use std::hash::{Hash, Hasher};
 
 pub use resolver::{
-    DEFAULT_MAX_NAMESPACE_BINDINGS, Holder, Memory, NamespaceBindingsIter,
-    NamespaceBindingsOfLevelIter, NamespaceResolver, ResolvedNames,
+    DEFAULT_MAX_NAMESPACE_BINDINGS, Holder, Lent, Memory, NamespaceBindingsIter,
+    NamespaceBindingsOfLevelIter, NamespaceResolver, Owned, ResolvedNames, Room,
 };
 
 /// A declaration that isn't accepted, or a prefix that none declares.
@@ -31,12 +31,19 @@ pub enum NamespaceError {
     TooManyBindings(usize),
     /// One level more than 65,535.
     TooDeeplyNested(usize),
-    /// One binding more than the memory of a resolver holds: 1,024 and the two built-in ones. quick-xml
-    /// allocates without end and doesn't have this.
+    /// One binding more than a resolver holds: 1,024 and the two built-in ones. quick-xml allocates without
+    /// end and doesn't have this.
     BindingTableFull,
-    /// More text than the memory of a resolver holds: 65,536 bytes of prefixes and namespaces. quick-xml
-    /// doesn't have this.
+    /// More text than a resolver holds: 65,536 bytes of prefixes and namespaces. quick-xml doesn't have this.
     TextFull,
+    /// More than the memory holds that was lent for the resolver. Nothing was changed. It comes where memory is
+    /// lent alone ([`NamespaceResolver::new_in`]), and quick-xml doesn't have it.
+    LentMemoryFull {
+        /// So much would be in use.
+        wanted: Room,
+        /// So much is lent.
+        given: Room,
+    },
     /// The memory is not that of a resolver. Memory is looked at before it is a resolver's
     /// ([`NamespaceResolver::resume_in`]) and the library alone writes it then, so it doesn't come here;
     /// quick-xml doesn't have it.
@@ -76,6 +83,9 @@ impl Display for NamespaceError {
                 f,
                 "the namespace bindings in scope have more than 65,536 bytes of text"
             ),
+            Self::LentMemoryFull { wanted, given } => {
+                write!(f, "room for {wanted} is needed, and for {given} is lent")
+            }
             Self::BadResolver => write!(f, "the memory is not that of a resolver"),
         }
     }

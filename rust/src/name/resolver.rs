@@ -5,20 +5,20 @@ use super::{
 };
 use crate::LentError;
 use crate::events::BytesStart;
-use crate::ffi::{Answers, NAMES};
-use std::borrow::BorrowMut;
+use crate::ffi::{Answers, Detail, LEND_MORE, Listed, NAMES};
+use crate::memory::{Holds, View};
 use std::fmt::{self, Debug, Formatter};
 use std::iter::FusedIterator;
 
-pub use crate::ffi::Memory;
+pub use crate::memory::{Holder, Lent, Memory, Owned, Room};
 
 /// How many bindings a resolver accepts unless told otherwise, the two built-in ones not counted.
 pub const DEFAULT_MAX_NAMESPACE_BINDINGS: usize = 128;
 
 /// The bindings that hold at a place of a document.
 ///
-/// Its memory has a fixed size, about 92 KB, and stays where it is. 1,024 bindings fit in it and 65,536
-/// bytes of text; of the text the built-in bindings have 73.
+/// Its memory is its own and grows with what it holds, up to 1,024 bindings and 65,536 bytes of text; of the
+/// text the built-in bindings have 73.
 ///
 /// ```
 /// use mezzulidda::events::BytesStart;
@@ -32,46 +32,37 @@ pub const DEFAULT_MAX_NAMESPACE_BINDINGS: usize = 128;
 /// assert_eq!(resolver.resolve_element(QName("chunk")).0, ResolveResult::Unbound);
 /// ```
 ///
-/// By default the memory is a box. It can be lent instead, from wherever the caller has it:
+/// It can be lent instead, in any size, from wherever the caller has it. Nothing is allocated then, and a
+/// declaration that has no room is refused:
 ///
 /// ```
-/// use mezzulidda::name::{Memory, NamespaceResolver};
+/// use mezzulidda::events::BytesStart;
+/// use mezzulidda::name::{Memory, NamespaceError, NamespaceResolver, Room};
 /// use std::sync::Mutex;
 ///
-/// // on the stack
-/// let mut memory = Memory::new();
-/// let resolver = NamespaceResolver::new_in(&mut memory);
+/// // on the stack: 100 bytes of text, 8 bindings
+/// let mut memory = Memory::<100, 8>::zeros();
+/// let mut resolver = NamespaceResolver::new_in(&mut memory);
+/// let tag = BytesStart::from_content("volume xmlns:v='urn:example:a-long-namespace'", 6);
+/// let refused = NamespaceError::LentMemoryFull {
+///     wanted: Room { text: 102, bindings: 3 },
+///     given: Room { text: 100, bindings: 8 },
+/// };
+/// assert_eq!(resolver.push(&tag), Err(refused));
 /// assert_eq!(resolver.level(), 0);
 ///
-/// // in a static
+/// // in a static, of full size
 /// static MEMORY: Mutex<Memory> = Mutex::new(Memory::new());
 /// let mut memory = MEMORY.lock().unwrap();
-/// let resolver = NamespaceResolver::new_in(&mut *memory);
-/// assert_eq!(resolver.level(), 0);
+/// let mut resolver = NamespaceResolver::new_in(&mut *memory);
+/// assert_eq!(resolver.push(&tag), Ok(()));
 /// ```
-pub struct NamespaceResolver<M = Box<Memory>> {
+pub struct NamespaceResolver<M = Owned> {
     memory: M,
 }
 
-/// What a resolver's memory is held by: a box, or a borrow of it.
-///
-/// No other type has it, so that nothing but the library writes a resolver's memory.
-pub trait Holder: BorrowMut<Memory> + held::Sealed {}
-
-impl Holder for Box<Memory> {}
-impl Holder for &mut Memory {}
-
-mod held {
-    use super::Memory;
-
-    pub trait Sealed {}
-
-    impl Sealed for Box<Memory> {}
-    impl Sealed for &mut Memory {}
-}
-
 /// An answer that the library has for memory that is no resolver's (20), or for lengths that aren't
-/// right (99). Lengths are those of the arrays, and only the library writes the memory.
+/// right (99). Only the library writes the memory.
 #[cold]
 fn impossible(answer: usize) -> ! {
     unreachable!("the library answered {answer} on memory of its own")
@@ -83,13 +74,13 @@ macro_rules! read_by {
         impl NamespaceResolver<$holder> {
             /// How many scopes were begun and not ended.
             pub const fn level(&self) -> u16 {
-                self.memory.level()
+                self.memory.view().level()
             }
 
             /// How many bindings are accepted, the two built-in ones not counted.
             #[inline]
             pub const fn max_namespace_bindings(&self) -> usize {
-                self.memory.limit()
+                self.memory.view().limit()
             }
 
             /// The bindings that hold, without the built-in ones, in the order in which they were
@@ -97,7 +88,7 @@ macro_rules! read_by {
             #[inline]
             pub const fn bindings(&self) -> NamespaceBindingsIter<'_> {
                 NamespaceBindingsIter {
-                    memory: &self.memory,
+                    memory: self.memory.view(),
                     place: 2,
                 }
             }
@@ -106,7 +97,7 @@ macro_rules! read_by {
             /// built-in ones are at level 0.
             pub const fn bindings_of(&self, level: u16) -> NamespaceBindingsOfLevelIter<'_> {
                 NamespaceBindingsOfLevelIter {
-                    memory: &self.memory,
+                    memory: self.memory.view(),
                     place: 0,
                     level,
                 }
@@ -114,18 +105,18 @@ macro_rules! read_by {
         }
     )* };
 }
-read_by!(Box<Memory>, &mut Memory);
+read_by!(Owned, Lent<'_>);
 
-impl<M: Holder> NamespaceResolver<M> {
+impl<'m> NamespaceResolver<Lent<'m>> {
     /// A resolver with no declarations, in memory that is given. What the memory held is forgotten.
-    pub fn new_in(mut memory: M) -> Self {
-        memory.borrow_mut().fresh();
+    pub fn new_in(memory: impl Into<Lent<'m>>) -> Self {
+        let mut memory = memory.into();
+        memory.fresh();
         NamespaceResolver { memory }
     }
 
     /// The resolver that an earlier one left in this memory, as it was. The memory may hold anything: it
-    /// is looked at first, by the same test that every call makes, and left as it is. A box that is refused
-    /// is freed; whoever wants to keep it lends it.
+    /// is looked at first, by the same test that every call makes, and left as it is.
     ///
     /// ```
     /// use mezzulidda::LentError;
@@ -141,26 +132,71 @@ impl<M: Holder> NamespaceResolver<M> {
     /// assert_eq!(resolver.level(), 1);
     /// # Ok::<(), LentError>(())
     /// ```
-    pub fn resume_in(memory: M) -> Result<Self, LentError> {
-        if !memory.borrow().is_resolver() {
+    pub fn resume_in(memory: impl Into<Lent<'m>>) -> Result<Self, LentError> {
+        let memory = memory.into();
+        let held = memory.view();
+        held.is_lent()?;
+        if !held.is_resolver() {
             return Err(LentError::NoResolver);
         }
         // rule 20 is about bytes, and what is handed out here is text
-        match memory.borrow().without_text() {
+        match held.without_text() {
             Some(binding) => Err(LentError::NoText(binding)),
             None => Ok(NamespaceResolver { memory }),
         }
     }
 
-    /// The same resolver in other memory.
-    pub fn copy_in<N: Holder>(&self, mut memory: N) -> NamespaceResolver<N> {
-        memory.borrow_mut().copy(self.memory.borrow());
+    /// The memory, for another resolver.
+    pub fn into_memory(self) -> Lent<'m> {
+        self.memory
+    }
+}
+
+impl<M: Holder> NamespaceResolver<M> {
+    /// The same resolver in memory that is given, if there is room for it.
+    pub fn copy_in<'n>(
+        &self,
+        memory: impl Into<Lent<'n>>,
+    ) -> Result<NamespaceResolver<Lent<'n>>, LentError> {
+        let mut memory = memory.into();
+        memory.copy(self.memory())?;
+        Ok(NamespaceResolver { memory })
+    }
+
+    /// The same resolver in memory of its own.
+    pub fn copied(&self) -> NamespaceResolver {
+        let memory = Owned::of(self.memory());
         NamespaceResolver { memory }
     }
 
-    /// The memory, for another resolver.
-    pub fn into_memory(self) -> M {
-        self.memory
+    /// A call that may need more memory: where there can be more it is made again.
+    #[inline]
+    fn changed(
+        &mut self,
+        call: impl Fn(&mut Lent) -> (usize, Detail),
+    ) -> Result<(usize, Detail), NamespaceError> {
+        loop {
+            let told = call(&mut self.memory.lend());
+            if told.0 != LEND_MORE {
+                return Ok(told);
+            }
+            if !self.memory.more() {
+                return Err(self.too_small(call));
+            }
+        }
+    }
+
+    /// What is said of a call for which the memory is too small: a copy that has more tells what it needs.
+    #[cold]
+    fn too_small(&self, call: impl Fn(&mut Lent) -> (usize, Detail)) -> NamespaceError {
+        let mut copy = self.copied();
+        match copy.changed(call) {
+            Ok(_) => NamespaceError::LentMemoryFull {
+                wanted: copy.memory().used(),
+                given: self.memory().room(),
+            },
+            Err(_) => impossible(LEND_MORE),
+        }
     }
 
     /// Binds a prefix, or the default, at the present level.
@@ -175,7 +211,7 @@ impl<M: Holder> NamespaceResolver<M> {
             PrefixDeclaration::Default => None,
             PrefixDeclaration::Named(prefix) => Some(prefix),
         };
-        let (answer, detail) = self.memory.borrow_mut().add(prefix, namespace.0);
+        let (answer, detail) = self.changed(|memory| memory.add(prefix, namespace.0))?;
         let named = prefix.unwrap_or_default();
         refusal(answer, detail, namespace.0, named)
     }
@@ -183,9 +219,10 @@ impl<M: Holder> NamespaceResolver<M> {
     /// Begins a scope: one level more, and the declarations of a tag.
     ///
     /// The tag is read in XML mode up to the first thing that is wrong in it. Where a declaration is
-    /// refused those before it stay, and so does the level.
+    /// refused those before it stay, and so does the level. Lent memory that is too small is no such refusal:
+    /// it changes nothing.
     pub fn push(&mut self, start: &BytesStart) -> Result<(), NamespaceError> {
-        let (answer, detail) = self.memory.borrow_mut().push(start, start.name_len());
+        let (answer, detail) = self.changed(|memory| memory.push(start, start.name_len()))?;
         refusal(answer, detail, start, start)
     }
 
@@ -193,7 +230,7 @@ impl<M: Holder> NamespaceResolver<M> {
     /// none to end.
     #[inline]
     pub fn pop(&mut self) {
-        match self.memory.borrow_mut().pop() {
+        match self.memory.lend().pop() {
             0 => (),
             answer => impossible(answer),
         }
@@ -201,7 +238,7 @@ impl<M: Holder> NamespaceResolver<M> {
 
     /// Goes to a level. Bindings of levels above it are dropped.
     pub fn set_level(&mut self, level: u16) {
-        match self.memory.borrow_mut().set_level(level) {
+        match self.memory.lend().set_level(level) {
             0 => (),
             answer => impossible(answer),
         }
@@ -210,8 +247,13 @@ impl<M: Holder> NamespaceResolver<M> {
     /// Sets how many bindings are accepted. None is dropped; more than 1,024 don't fit, whatever is set.
     #[inline]
     pub fn set_max_namespace_bindings(&mut self, limit: usize) -> &mut Self {
-        self.memory.borrow_mut().set_limit(limit);
+        self.memory.lend().head[3] = limit;
         self
+    }
+
+    /// How much the memory holds at present.
+    pub fn room(&self) -> Room {
+        self.memory().room()
     }
 
     /// The namespace of a name, and the name without its prefix. The default namespace holds for names of
@@ -245,12 +287,14 @@ impl<M: Holder> NamespaceResolver<M> {
     }
 
     /// What the library reads it in.
-    pub(crate) fn memory(&self) -> &Memory {
-        self.memory.borrow()
+    #[inline]
+    pub(crate) fn memory(&self) -> View<'_> {
+        self.memory.view()
     }
 
+    #[inline]
     fn resolved(&self, name: &str, use_default: bool) -> ResolveResult<'_> {
-        let memory = self.memory.borrow();
+        let memory = self.memory();
         resolved(memory, name, memory.resolve(name, use_default))
     }
 
@@ -258,8 +302,7 @@ impl<M: Holder> NamespaceResolver<M> {
     /// its attributes do: each is what [`resolve_element`](Self::resolve_element) answers for the first
     /// and [`resolve_attribute`](Self::resolve_attribute) for the others.
     ///
-    /// The memory is tested once for 32 names where each of these tests it anew, which is most of what
-    /// they cost.
+    /// The memory is tested once for 32 names where each of these tests it anew.
     ///
     /// ```
     /// use mezzulidda::events::BytesStart;
@@ -283,7 +326,7 @@ impl<M: Holder> NamespaceResolver<M> {
         keys: &'n [QName<'n>],
     ) -> ResolvedNames<'r, 'n> {
         ResolvedNames {
-            memory: self.memory.borrow(),
+            memory: self.memory(),
             tag: start,
             own: Some(start.name()),
             keys,
@@ -294,45 +337,39 @@ impl<M: Holder> NamespaceResolver<M> {
     }
 }
 
-/// A part of the text of the bindings.
-fn text(memory: &Memory, from: usize, to: usize) -> &str {
-    // what was added is text, cut beside `=`, quotes and whitespace, and what was resumed was looked at
-    str::from_utf8(&memory.text()[from..to]).expect("prefixes and namespaces are text")
-}
-
 /// What the library answers for a name.
 fn resolved<'r>(
-    memory: &'r Memory,
+    memory: View<'r>,
     name: &str,
-    (answer, [from, to]): (usize, [usize; 2]),
+    (answer, [from, to]): (usize, Detail),
 ) -> ResolveResult<'r> {
     match answer {
         0 => ResolveResult::Unbound,
-        1 => ResolveResult::Bound(Namespace(text(memory, from, to))),
+        1 => ResolveResult::Bound(Namespace(memory.text(from, to))),
         2 => ResolveResult::Unknown(name[from..to].to_string()),
         _ => impossible(answer),
     }
 }
 
 /// What a listing shows of one record.
-fn shown(
-    memory: &Memory,
+fn shown<'a>(
+    memory: View<'a>,
     kind: usize,
-    detail: [usize; 5],
-) -> (PrefixDeclaration<'_>, Namespace<'_>) {
+    detail: Listed,
+) -> (PrefixDeclaration<'a>, Namespace<'a>) {
     let [prefix_from, prefix_to, from, to, _] = detail;
     let prefix = match kind {
         1 => PrefixDeclaration::Default,
-        2 => PrefixDeclaration::Named(text(memory, prefix_from, prefix_to)),
+        2 => PrefixDeclaration::Named(memory.text(prefix_from, prefix_to)),
         _ => impossible(kind),
     };
-    (prefix, Namespace(text(memory, from, to)))
+    (prefix, Namespace(memory.text(from, to)))
 }
 
 /// The library's answer to a declaration, with the texts that its bounds are of.
 fn refusal(
     answer: usize,
-    [from, to]: [usize; 2],
+    [from, to]: Detail,
     namespace: &str,
     prefix: &str,
 ) -> Result<(), NamespaceError> {
@@ -353,19 +390,22 @@ fn refusal(
 
 impl Default for NamespaceResolver {
     fn default() -> Self {
-        NamespaceResolver::new_in(Memory::boxed())
+        let mut memory = Owned::new();
+        memory.lend().fresh();
+        NamespaceResolver { memory }
     }
 }
 
 impl Clone for NamespaceResolver {
     fn clone(&self) -> Self {
-        self.copy_in(Memory::boxed())
+        let memory = self.memory.clone();
+        NamespaceResolver { memory }
     }
 }
 
 impl<M: Holder> Debug for NamespaceResolver<M> {
     fn fmt(&self, f: &mut Formatter) -> fmt::Result {
-        let memory = self.memory.borrow();
+        let memory = self.memory();
         let bindings: Vec<_> = NamespaceBindingsIter { memory, place: 2 }.collect();
         f.debug_struct("NamespaceResolver")
             .field("level", &memory.level())
@@ -378,7 +418,7 @@ impl<M: Holder> Debug for NamespaceResolver<M> {
 /// The namespaces of a tag's names: see [`NamespaceResolver::resolve_all`].
 #[derive(Clone)]
 pub struct ResolvedNames<'r, 'n> {
-    memory: &'r Memory,
+    memory: View<'r>,
     tag: &'n str,
     /// The tag's own name until it was handed out, and the names after it that were not.
     own: Option<QName<'n>>,
@@ -461,8 +501,8 @@ impl Debug for ResolvedNames<'_, '_> {
 
 /// What a listing shows, if that is not its end; the place goes past it.
 fn next_of<'a>(
-    memory: &'a Memory,
-    (kind, detail): (usize, [usize; 5]),
+    memory: View<'a>,
+    (kind, detail): (usize, Listed),
     place: &mut usize,
 ) -> Option<(PrefixDeclaration<'a>, Namespace<'a>)> {
     if kind == 0 {
@@ -475,7 +515,7 @@ fn next_of<'a>(
 /// The bindings that hold: see [`NamespaceResolver::bindings`].
 #[derive(Debug, Clone)]
 pub struct NamespaceBindingsIter<'a> {
-    memory: &'a Memory,
+    memory: View<'a>,
     place: usize,
 }
 
@@ -488,7 +528,7 @@ impl<'a> Iterator for NamespaceBindingsIter<'a> {
     }
 
     fn size_hint(&self) -> (usize, Option<usize>) {
-        (0, Some(self.memory.count() - self.place))
+        (0, Some(self.memory.used().bindings - self.place))
     }
 }
 
@@ -497,7 +537,7 @@ impl FusedIterator for NamespaceBindingsIter<'_> {}
 /// The bindings of a level: see [`NamespaceResolver::bindings_of`].
 #[derive(Debug, Clone)]
 pub struct NamespaceBindingsOfLevelIter<'a> {
-    memory: &'a Memory,
+    memory: View<'a>,
     place: usize,
     level: u16,
 }
@@ -511,7 +551,7 @@ impl<'a> Iterator for NamespaceBindingsOfLevelIter<'a> {
     }
 
     fn size_hint(&self) -> (usize, Option<usize>) {
-        (0, Some(self.memory.count() - self.place))
+        (0, Some(self.memory.used().bindings - self.place))
     }
 }
 
