@@ -1,0 +1,490 @@
+// Holds a resolver's answers against recorded ones, read from standard input. A record is one call, with the numbers of
+// two bytes lower byte first:
+//
+//     call   numbers   length   first ..   length   second ..   code   values   used   count   level
+//     1      2, 2      2        length     2        length      2      10       2      2       2
+//
+// The calls are those of `Call`, in its order, and each acts on what the calls before it have left. `code` and five
+// values are the answer; then how many bytes of text and how many records are in use, and at which level. The resolver
+// goes from call to call by value, so that each contract is one equation on all of it. What is counted is `replayOf`,
+// specs/Replay.antt.
+use name::Declares;
+use scope_listing::Listed;
+use scope_listing::Listing;
+use scope_lookup::Resolved;
+use scope_table::Changed;
+use scope_table::NamespaceResolver;
+use scope_table::NamespaceResult;
+ghost use mathlib.Core.Path.{_≡_};
+ghost use Prim.Native.Nat.{_+_, _*_, _≤_, _<_};
+ghost use lib.Dec.{eqb};
+ghost use lib.ListN.{length};
+ghost use Rattle.replay_scopes.specs.Calls.{said, changeSaid, lookupSaid, placeAfter, listingSaid, shownIn, changedBy, resetTo, lookedUp, listedAs, callOf, madeOf};
+ghost use Rattle.replay_scopes.specs.Replay.{twoAt, sameSaid, sameLeft, lengthsOf, heldTo, turnOf, recordOf, stopped, replayOf};
+
+// A recorded call, with what its numbers and texts are.
+enum Call {
+    Fresh,
+    // second text: the value
+    AddDefault,
+    // the prefix, the value
+    AddNamed,
+    // first number: where the attributes begin; first text: the tag
+    Push,
+    Pop,
+    // the level
+    SetLevel,
+    // the limit
+    SetLimit,
+    // the name
+    ResolveAttribute,
+    // the name
+    ResolveElement,
+    // the place
+    Bindings,
+    // the place, the level
+    BindingsOf,
+}
+
+// An answer in numbers: its code, and its values with zeros after them.
+struct Said {
+    code: usize,
+    first: usize,
+    second: usize,
+    third: usize,
+    fourth: usize,
+    fifth: usize,
+}
+
+// What a call answers, how many names it resolves and how many bindings it shows, and the resolver that it leaves.
+struct Made {
+    said: Said,
+    names: usize,
+    bindings: usize,
+    resolver: NamespaceResolver,
+}
+
+// The lengths of a record's two texts, where the whole record is there.
+enum Lengths {
+    Whole(usize, usize),
+    Cut,
+}
+
+// What stands at the front of some bytes.
+enum Step {
+    // a whole record of that many bytes, whose answer is ours, with its names and its bindings
+    Agrees(usize, usize, usize),
+    // one whose answer is not
+    Differs,
+    // too few bytes for one, or no call
+    Cut,
+}
+
+// That, and the resolver after it.
+struct Turn {
+    step: Step,
+    resolver: NamespaceResolver,
+}
+
+// Where a replay stops.
+enum End {
+    All,
+    Differs(usize),
+    Cut(usize),
+}
+
+struct Replayed {
+    calls: usize,
+    names: usize,
+    bindings: usize,
+    end: End,
+}
+
+fn byte_wide(b: u8) -> u16
+    ensures { λ r. ⌜ r ≡ b ⌝ }
+{
+    b as u16
+}
+
+fn wide(n: u16) -> usize
+    ensures { λ r. ⌜ r ≡ n ⌝ }
+{
+    n as usize
+}
+
+// The number of two bytes at a place.
+fn two_at(s: &[u8], at: usize) -> u16
+    requires { ⌜ at + 1 < length (now s) ⌝ }
+    ensures { λ r. ⌜ r ≡ twoAt (now (s .entry)) at ⌝ }
+{
+    byte_wide(s[at]) + 256 * byte_wide(s[at + 1])
+}
+
+// Whether the number at a place is n.
+fn is_two(s: &[u8], at: usize, n: usize) -> bool
+    requires { ⌜ at + 1 < length (now s) ⌝ }
+    ensures { λ r. ⌜ r ≡ eqb (twoAt (now (s .entry)) at) n ⌝ }
+{
+    wide(two_at(s, at)) == n
+}
+
+fn call_of(number: u8) -> Call
+    ensures { λ r. ⌜ r ≡ callOf number ⌝ }
+{
+    match number {
+        0 => Call::Fresh,
+        1 => Call::AddDefault,
+        2 => Call::AddNamed,
+        3 => Call::Push,
+        4 => Call::Pop,
+        5 => Call::SetLevel,
+        6 => Call::SetLimit,
+        7 => Call::ResolveAttribute,
+        8 => Call::ResolveElement,
+        9 => Call::Bindings,
+        _ => Call::BindingsOf,
+    }
+}
+
+// An answer of at most two values.
+fn says(code: usize, first: usize, second: usize) -> Said
+    ensures { λ r. ⌜ r ≡ said code first second ⌝ }
+{
+    Said {
+        code: code,
+        first: first,
+        second: second,
+        third: 0,
+        fourth: 0,
+        fifth: 0,
+    }
+}
+
+// A changing call: 0, or a refusal's number and its values.
+fn change_said(answer: NamespaceResult) -> Said
+    ensures { λ r. ⌜ r ≡ changeSaid answer ⌝ }
+{
+    let told = scope_table::change_numbers(answer);
+    says(told.number, told.first, told.second)
+}
+
+// A lookup: 0 unbound, 1 bound with the bounds of the URI in the resolver's text, 2 unknown with those of the prefix.
+fn lookup_said(found: Resolved) -> Said
+    ensures { λ r. ⌜ r ≡ lookupSaid found ⌝ }
+{
+    let told = scope_lookup::resolved_numbers(found);
+    says(told.number, told.first, told.second)
+}
+
+// The place to go on from, which is recorded where a binding is shown.
+fn place_after(answer: Listed, place: usize) -> usize
+    ensures { λ r. ⌜ r ≡ placeAfter answer place ⌝ }
+{
+    match answer {
+        Listed::Binding(_, _, _) => place,
+        Listed::End => 0,
+        Listed::BadResolver => 0,
+        Listed::WrongLength => 0,
+    }
+}
+
+// A listing: 0 for its end; 1 for a default, which has no prefix, and 2 for a named one, with the bounds of prefix and
+// value, and the place to go on from.
+fn listing_said(answer: Listed, place: usize) -> Said
+    ensures { λ r. ⌜ r ≡ listingSaid answer place ⌝ }
+{
+    let told = scope_listing::listed_numbers(answer);
+    let after = place_after(answer, place);
+    Said {
+        code: told.number,
+        first: told.prefix_from,
+        second: told.prefix_to,
+        third: told.value_from,
+        fourth: told.value_to,
+        fifth: after,
+    }
+}
+
+fn shown_in(answer: Listed) -> usize
+    ensures { λ r. ⌜ r ≡ shownIn answer ⌝ }
+{
+    match answer {
+        Listed::Binding(_, _, _) => 1,
+        Listed::End => 0,
+        Listed::BadResolver => 0,
+        Listed::WrongLength => 0,
+    }
+}
+
+// A changing call that may refuse.
+fn changed_by(c: Changed) -> Made
+    ensures { λ m. ⌜ m ≡ changedBy c ⌝ }
+{
+    let answer = c.answer;
+    let left = c.resolver;
+    Made {
+        said: change_said(answer),
+        names: 0,
+        bindings: 0,
+        resolver: left,
+    }
+}
+
+// One that never does: a fresh resolver, or another limit.
+fn reset_to(r: NamespaceResolver) -> Made
+    ensures { λ m. ⌜ m ≡ resetTo r ⌝ }
+{
+    Made {
+        said: says(0, 0, 0),
+        names: 0,
+        bindings: 0,
+        resolver: r,
+    }
+}
+
+// A question, which leaves the resolver as it was.
+fn looked_up(r: NamespaceResolver, found: Resolved) -> Made
+    ensures { λ m. ⌜ m ≡ lookedUp r found ⌝ }
+{
+    Made {
+        said: lookup_said(found),
+        names: 1,
+        bindings: 0,
+        resolver: r,
+    }
+}
+
+fn listed_as(r: NamespaceResolver, listing: Listing) -> Made
+    ensures { λ m. ⌜ m ≡ listedAs r listing ⌝ }
+{
+    let answer = listing.answer;
+    Made {
+        said: listing_said(answer, listing.place),
+        names: 0,
+        bindings: shown_in(answer),
+        resolver: r,
+    }
+}
+
+// A call is made, with its numbers and texts.
+fn make<'a>(
+    r: NamespaceResolver,
+    call: Call,
+    a: u16,
+    b: u16,
+    first: &'a [u8],
+    second: &'a [u8],
+) -> Made
+    ensures { λ m. ⌜ m ≡ madeOf r call a b (now (first .entry)) (now (second .entry)) ⌝ }
+{
+    match call {
+        Call::Fresh => reset_to(NamespaceResolver::fresh()),
+        Call::AddDefault => changed_by(scope_declare::add(r, Declares::Default, first, second)),
+        Call::AddNamed => changed_by(scope_declare::add(r, Declares::Named, first, second)),
+        Call::Push => changed_by(scope_push::push(r, first, wide(a))),
+        Call::Pop => changed_by(scope_declare::pop(r)),
+        Call::SetLevel => changed_by(scope_declare::set_level(r, a)),
+        Call::SetLimit => reset_to(scope_declare::set_max_namespace_bindings(r, wide(a))),
+        Call::ResolveAttribute => looked_up(r, scope_lookup::resolve_attribute(r, first)),
+        Call::ResolveElement => looked_up(r, scope_lookup::resolve_element(r, first)),
+        Call::Bindings => listed_as(r, scope_listing::bindings(r, wide(a))),
+        Call::BindingsOf => listed_as(r, scope_listing::bindings_of(r, b, wide(a))),
+    }
+}
+
+// Whether an answer is the one that is recorded at the front of some bytes.
+fn same_said(answer: Said, recorded: &[u8]) -> bool
+    requires { ⌜ 18 ≤ length (now recorded) ⌝ }
+    ensures { λ r. ⌜ r ≡ sameSaid answer (now (recorded .entry)) ⌝ }
+{
+    if !is_two(recorded, 0, answer.code) {
+        return false;
+    }
+    if !is_two(recorded, 2, answer.first) {
+        return false;
+    }
+    if !is_two(recorded, 4, answer.second) {
+        return false;
+    }
+    if !is_two(recorded, 6, answer.third) {
+        return false;
+    }
+    if !is_two(recorded, 8, answer.fourth) {
+        return false;
+    }
+    is_two(recorded, 10, answer.fifth)
+}
+
+// Whether the text in use, the record count and the level are those that stand after it.
+fn same_left(used: usize, count: usize, level: usize, recorded: &[u8]) -> bool
+    requires { ⌜ 18 ≤ length (now recorded) ⌝ }
+    ensures { λ r. ⌜ r ≡ sameLeft used count level (now (recorded .entry)) ⌝ }
+{
+    if !is_two(recorded, 12, used) {
+        return false;
+    }
+    if !is_two(recorded, 14, count) {
+        return false;
+    }
+    is_two(recorded, 16, level)
+}
+
+// What a call of a record of so many bytes made is held against what is recorded.
+fn held_to(made: Made, size: usize, recorded: &[u8]) -> Turn
+    requires { ⌜ 18 ≤ length (now recorded) ⌝ }
+    ensures { λ r. ⌜ r ≡ heldTo made size (now (recorded .entry)) ⌝ }
+{
+    let answer = made.said;
+    let left = made.resolver;
+    let head = left.head;
+    if !same_said(answer, recorded) {
+        return Turn {
+            step: Step::Differs,
+            resolver: left,
+        };
+    }
+    if !same_left(head.used, head.count, head.level, recorded) {
+        return Turn {
+            step: Step::Differs,
+            resolver: left,
+        };
+    }
+    Turn {
+        step: Step::Agrees(size, made.names, made.bindings),
+        resolver: left,
+    }
+}
+
+fn lengths_of(rest: &[u8]) -> Lengths
+    ensures { λ r. ⌜ r ≡ lengthsOf (now (rest .entry)) ⌝ }
+{
+    if rest.len() < 27 {
+        return Lengths::Cut;
+    }
+    if 10 < rest[0] {
+        return Lengths::Cut;
+    }
+    let n = wide(two_at(rest, 5));
+    if rest.len() - 27 < n {
+        return Lengths::Cut;
+    }
+    let m = wide(two_at(rest, 7 + n));
+    if rest.len() - 27 - n < m {
+        return Lengths::Cut;
+    }
+    Lengths::Whole(n, m)
+}
+
+// The call of a whole record, whose texts have n and m bytes.
+fn turn_of(r: NamespaceResolver, rest: &[u8], n: usize, m: usize) -> Turn
+    requires { ⌜ 27 + n + m ≤ length (now rest) ⌝ }
+    ensures { λ t. ⌜ t ≡ turnOf r (now (rest .entry)) n m ⌝ }
+{
+    let to = 7 + n;
+    let from = 9 + n;
+    let end = from + m;
+    let made = make(
+        r,
+        call_of(rest[0]),
+        two_at(rest, 1),
+        two_at(rest, 3),
+        &rest[7..to],
+        &rest[from..end],
+    );
+    held_to(made, 18 + end, &rest[end..])
+}
+
+fn record_of(r: NamespaceResolver, rest: &[u8]) -> Turn
+    ensures { λ t. ⌜ t ≡ recordOf r (now (rest .entry)) ⌝ }
+{
+    let lengths = lengths_of(rest);
+    match lengths {
+        Lengths::Whole(n, m) => turn_of(r, rest, n, m),
+        Lengths::Cut => Turn {
+            step: Step::Cut,
+            resolver: r,
+        },
+    }
+}
+
+fn stop(calls: usize, names: usize, bindings: usize, end: End) -> Replayed
+    ensures { λ r. ⌜ r ≡ stopped calls names bindings end ⌝ }
+{
+    Replayed {
+        calls: calls,
+        names: names,
+        bindings: bindings,
+        end: end,
+    }
+}
+
+// How many records agree before the first that does not, and where that one is. A fresh resolver is there from the start.
+fn replay(records: &[u8]) -> Replayed
+    ensures { λ r. ⌜ r ≡ replayOf (now (records .entry)) ⌝ }
+{
+    let mut resolver = NamespaceResolver::fresh();
+    let mut at = 0;
+    let mut calls = 0;
+    let mut names = 0;
+    let mut bindings = 0;
+    while at < records.len() {
+        let turn = record_of(resolver, &records[at..]);
+        let step = turn.step;
+        match step {
+            Step::Agrees(size, resolved, shown) => {
+                let left = turn.resolver;
+                resolver = left;
+                at += size;
+                calls += 1;
+                names += resolved;
+                bindings += shown;
+            }
+            Step::Differs => return stop(calls, names, bindings, End::Differs(at)),
+            Step::Cut => return stop(calls, names, bindings, End::Cut(at)),
+        }
+    }
+    stop(calls, names, bindings, End::All)
+}
+
+fn show(replayed: Replayed) {
+    io::write_all(1, b"calls ");
+    io::print_decimal(1, replayed.calls as u64);
+    io::write_all(1, b", names ");
+    io::print_decimal(1, replayed.names as u64);
+    io::write_all(1, b", bindings ");
+    io::print_decimal(1, replayed.bindings as u64);
+    let end = replayed.end;
+    match end {
+        End::All => {
+            io::write_all(1, b", all as recorded\n");
+        }
+        End::Differs(at) => {
+            io::write_all(1, b" as recorded, and a call that is not at byte ");
+            io::print_decimal(1, at as u64);
+            io::write_all(1, b"\n");
+        }
+        End::Cut(at) => {
+            io::write_all(1, b" as recorded, and no whole record at byte ");
+            io::print_decimal(1, at as u64);
+            io::write_all(1, b"\n");
+        }
+    }
+}
+
+// Room for the records. The contract gives the length, which lending the array as a slice needs.
+fn room() -> [u8; 262144]
+    ensures { λ r. ⌜ 262144 ≡ length r ⌝ }
+{
+    [0; 262144]
+}
+
+fn main() {
+    let mut buffer = room();
+    let n = io::read_full(0, &mut buffer);
+    let mut one = [0u8; 1];
+    if io::read_full(0, &mut one) > 0 {
+        io::write_all(1, b"too long\n");
+        return;
+    }
+    show(replay(&buffer[..n]));
+}
