@@ -44,7 +44,7 @@ pub type Listed = [usize; 5];
 pub const LEND_MORE: usize = 98;
 
 /// So many names are resolved by one call.
-pub const NAMES: usize = 32;
+pub const NAMES: usize = 16;
 
 const NUMBER: usize = size_of::<usize>();
 

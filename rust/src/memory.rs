@@ -388,6 +388,7 @@ impl<'m> View<'m> {
     }
 
     /// A part of the text of the bindings.
+    #[inline]
     pub(crate) fn text(self, from: usize, to: usize) -> &'m str {
         // what was added is text, cut beside `=`, quotes and whitespace, and what was resumed was looked at
         str::from_utf8(&self.text[from..to]).expect("prefixes and namespaces are text")

@@ -552,7 +552,7 @@ fn all_names_of_a_tag() {
         .push(&BytesStart::from_content(declared, 3))
         .unwrap();
     let other = "w:elsewhere".to_string();
-    for count in [0, 1, 2, 31, 32, 33, 63, 64, 65, 200] {
+    for count in [0, 1, 2, 14, 15, 16, 17, 31, 32, 33, 200] {
         let names = ["k", "p:k", "q:k", "r:k", "xml:k", ":k", "xmlns:k", "p:"];
         let content: String = (0..count)
             .map(|n| format!(" {}{n}=''", names[n % 8]))
