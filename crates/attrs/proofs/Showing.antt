@@ -1,7 +1,7 @@
 -- One turn of showing: the page that is made is the next 256 answers' lines, so it comes next; after it the reader stands
 -- behind them, or all is written.
 use Prim.Native.Nat.{ℕ, suc, _+_, _-_, _*_, _≤_, _<_}
-use mathlib.Core.Path.{_≡_, refl, sym, ap, _∙_}
+use mathlib.Core.Path.{_≡_, ap, _∙_}
 use mathlib.Core.Bool.{true, false}
 use mathlib.Core.List.{List}
 use native.Mathlib.Omega.{arith}
@@ -21,7 +21,6 @@ use Rattle.lines.specs.Lines.{linesOf}
 use Rattle.lines.specs.Page.{pageOf}
 use Rattle.lines.proofs.Pages.{page-lines}
 use Rattle.lines.proofs.Batches.{Stand, stand-first, stand-next, stand-bound, run-most, never-wrong, read-count, read-left}
-use Rattle.attrs.specs.Count.{tagAnswers}
 use Rattle.attrs.specs.Output.{outputOf, ComesNext, ToShow}
 use Rattle.attrs.proofs.Turn.{room, total-fits}
 use Rattle.attrs.proofs.Written.{fresh, Shown, shown-none, page-next, shown-more, shown-all, front-is, page-fits}

@@ -1,8 +1,8 @@
 -- The output part by part: what comes next is written where the last part ended, and the parts are the whole. The lines of
 -- a page are those of the next answers, since the reader stands behind the answers that were shown.
-use Prim.Native.Nat.{ℕ, zero, suc, _+_, _-_, _*_, _^_, _≤_, _<_}
+use Prim.Native.Nat.{ℕ, suc, _+_, _-_, _*_, _^_, _≤_, _<_}
 use mathlib.Core.Path.{_≡_, refl, sym, ap, _∙_}
-use mathlib.Core.Bool.{Bool, true, false}
+use mathlib.Core.Bool.{true, false}
 use mathlib.Core.Logic.{⊎-elim}
 use mathlib.Core.List.{List, [], _∷_, _++_, append-nil, append-assoc}
 use native.Mathlib.Nat.{eq-or-lt-of-le}
@@ -18,7 +18,7 @@ use Rattle.attributes.specs.Numbers.{numbersOf}
 use Rattle.attributes.specs.Run.{runOf, answersOf}
 use Rattle.attributes.proofs.Run.{run-whole}
 use Rattle.attributes.proofs.Good.{opened-sized}
-use Rattle.batch.specs.Batch.{fiveOf, leftOf, roomOf}
+use Rattle.batch.specs.Batch.{fiveOf, leftOf}
 use Rattle.batch.proofs.Turns.{five-length}
 use Rattle.lines.specs.Lines.{decimalOf, lineOf, linesOf}
 use Rattle.lines.proofs.Text.{decimal-length, line-length}

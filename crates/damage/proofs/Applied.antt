@@ -1,7 +1,7 @@
 -- Both theorems applied to tags that meet their premises: `damage-moves` where two values are struck, a key comes twice and
 -- a quote is missing; `next-stable` to a tag that grows, and that its bound cannot be one higher.
 use Prim.Native.Nat.{ℕ, zero, suc, _≤_, _<_}
-use mathlib.Core.Path.{_≡_, refl, ap, _∙_}
+use mathlib.Core.Path.{_≡_, refl, ap}
 use mathlib.Core.Bool.{true, false}
 use mathlib.Core.List.{List, [], _∷_, _++_, map}
 use native.Mathlib.Omega.{arith}

@@ -11,7 +11,7 @@ use Rattle.scan.specs.First.{stopOr, firstOf, firstTo}
 use Rattle.scan.specs.Bytes.{part, sameBytes, bytesFrom, bytes}
 use Rattle.keys.specs.declared.Earlier.the-variants.{At, Nothing}
 use Rattle.keys.specs.declared.Checked.the-variants.{Fresh, Same}
-use Rattle.keys.specs.Keys.{capacity, Room, nameAt, sameKey, oldestOf, earlierOf, checkedBy, checkedOf, writtenBy, countBy}
+use Rattle.keys.specs.Keys.{capacity, nameAt, sameKey, oldestOf, earlierOf, checkedBy, checkedOf, writtenBy, countBy}
 use Rattle.hashes.specs.Hash.{unset, held, Key, hashedEarlierOf, Covers, crateEarlierOf, crateChecksOf, checksOf}
 use Rattle.hashes.proofs.Hash.{any-hash-agrees, crate-way-agrees, crate-run-agrees}
 

@@ -8,7 +8,7 @@ use mathlib.Core.Logic.{⊎-elim}
 use mathlib.Core.List.{List, [], _∷_}
 use native.Mathlib.Nat.{eq-or-lt-of-le}
 use native.Mathlib.Omega.{arith}
-use lib.ListN.{length, getD, set}
+use lib.ListN.{length, set}
 use lib.Seq.{getD-set-same, getD-set-other}
 use lib.Dec.{eqb, ltb, leb}
 use borrow.Author.Tests.{lt-ltb, ltb-true, ltb-false, leb-true, leb-false, eq-eqb}
@@ -18,7 +18,7 @@ use Rattle.scan.proofs.Laws.{IsFirst, to-first}
 use Rattle.keys.specs.declared.Earlier.{Earlier}
 use Rattle.keys.specs.declared.Earlier.the-variants.{At, Nothing}
 use Rattle.keys.specs.declared.Checked.{Checked}
-use Rattle.keys.specs.declared.Checked.the-variants.{Fresh, Same, Full}
+use Rattle.keys.specs.declared.Checked.the-variants.{Fresh, Full}
 use Rattle.keys.specs.Keys.{capacity, Room, nameAt, earlierOf, checkedBy, checkedOf, writtenBy, countBy}
 use Rattle.hashes.specs.Hash.{Hashes, unset, held, insert, Key, seeded, asked, hashedEarlierOf, Covers, crateEarlierOf, hashesAfter, Kept, crateChecksOf, checksOf}
 use Rattle.keys.proofs.Laws.{earlier-none, room-stays}

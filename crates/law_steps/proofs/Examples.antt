@@ -1,12 +1,12 @@
 -- The laws of a step on tags and states, by computation: a row for each answer of the table "Numbers and what they leave",
 -- and each law applied where its premises are met.
-use Prim.Native.Nat.{ℕ, _+_, _≤_, _<_}
+use Prim.Native.Nat.{ℕ, zero, suc, _≤_, _<_}
 use Prim.Native.String.{String}
 use mathlib.Core.Path.{_≡_, refl, ap, subst}
-use mathlib.Core.Bool.{Bool, true, false, true≢false}
+use mathlib.Core.Bool.{Bool, true, false}
 use mathlib.Core.List.{List, [], _∷_, map}
 use native.Mathlib.Omega.{arith}
-use lib.ListN.{length, getD, set, replicate, length-replicate, getD-replicate}
+use lib.ListN.{getD, replicate, length-replicate, getD-replicate}
 use Rattle.scan.specs.First.{stopOr, firstOf, firstTo, firstFrom}
 use Rattle.scan.specs.Bytes.{isSpace, notSpace, endsKey, isByte, part, sameBytes, bytesFrom, bytes}
 use Rattle.keys.specs.Keys.{capacity, keyGood, keyBad, countGood, tableGood, nameAt, sameKey, oldestOf, earlierOf, checkedBy, checkedOf, writtenBy, countBy}
@@ -21,10 +21,11 @@ use Rattle.attributes.specs.declared.IterState.{IterState}
 use Rattle.attributes.specs.declared.Step.{Step}
 use Rattle.attributes.specs.Read.{span, isAt, isQuote, skipTo, skipOf, recoverOf, keyEq, keyTo, keyFrom, keyAt, quoted, closedOf, quotedTo, quotedOf, unquotedTo, otherOf, valueIn, valueFrom, valueAt}
 use Rattle.attributes.specs.Next.{checkOf, keptBy, placeAt, bareBy, bareTo, bareOf, valuedBy, valuedTo, valuedOf, readKey, readAt, stepFrom, stepOf, placeGood, keysOf, stateGood, noKeys, badReading, leaves, nextOf, opened}
-use Rattle.law_steps.specs.Steps.{FullTables, Broken, outsideKey, SevenExactly, valued, NoRoom, SixExactly, movedTo, movedWith, emptied, RecordsIts, Left, LeavesExact, EndStays, Forward, StepForward}
+use Rattle.attributes.proofs.Good.{opened-good}
+use Rattle.law_steps.specs.Steps.{FullTables, Broken, outsideKey, SevenExactly, valued, SixExactly, onlySpace, RecordsIts, Left, LeavesExact, EndExactly, EndStays, Forward, StepForward}
 use Rattle.law_steps.proofs.Leaves.{leaves-exact}
-use Rattle.law_steps.proofs.Refusals.{six-exactly, seven-exactly}
-use Rattle.law_steps.proofs.Steps.{end-stays, step-forward}
+use Rattle.law_steps.proofs.Refusals.{good-whole, six-exactly, seven-exactly}
+use Rattle.law_steps.proofs.Steps.{end-exactly, end-stays, step-forward}
 
 -- a state of these parts, the first two places of each table given and the others zero
 abbrev at : Place → (html checks : Bool) → (start start' end end' count : ℕ) → IterState
@@ -171,6 +172,26 @@ key-there from eq key goes reads =
 pub three-key : three-leaves .key ≡ span 0 1
 unfolding recoverOf opened bytes bytesFrom
 three-key = key-there (three-leaves .due .from) (three-leaves .eq) (three-leaves .key) (three-leaves .due .goes) (three-leaves .due .reads)
+
+-- Only whitespace follows: the end comes.
+abbrev spaces : List ℕ
+spaces = bytes "a \t"
+
+only-spaces : (k : ℕ) → 1 ≤ k → k < 3 → isSpace (getD spaces k 0) ≡ true
+unfolding isSpace bytes bytesFrom
+only-spaces zero lo hi = absurd (omega arith)
+only-spaces (suc zero) lo hi = refl
+only-spaces (suc (suc zero)) lo hi = refl
+only-spaces (suc (suc (suc k))) lo hi = absurd (omega arith)
+
+no-keys-whole : Broken spaces (opened 1 false true) → ⊥
+no-keys-whole = good-whole spaces (opened 1 false true) (opened-good spaces 1 false true)
+
+pub end-comes : nextOf spaces (opened 1 false true) .answer ≡ End
+unfolding EndExactly recoverOf opened noKeys bytes bytesFrom
+end-comes =
+    end-exactly spaces (opened 1 false true) (record { starts = length-replicate {A = ℕ} capacity 0; ends = length-replicate {A = ℕ} capacity 0 }) .1 no-keys-whole
+    (onlySpace 1 refl (omega arith) only-spaces)
 
 -- A skip with no whitespace after it is the end, and stays so.
 pub end-example : nextOf (tag "a=1") (nextOf (tag "a=1") (at (SkipValue 2) false true 0 8 1 9 1) .state) .answer ≡ End

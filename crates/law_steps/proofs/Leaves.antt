@@ -1,8 +1,8 @@
 -- What every step leaves: each way that a step can go is one row of the table. A key that is found fresh is recorded, and
 -- the verdict's count is one more while checks are on.
 use Prim.Native.Nat.{ℕ, _+_, _≤_, _<_}
-use mathlib.Core.Path.{_≡_, refl, sym, ap, subst, _∙_}
-use mathlib.Core.Bool.{Bool, true, false, not, false≢true, true≢false}
+use mathlib.Core.Path.{_≡_, refl}
+use mathlib.Core.Bool.{Bool, true, false}
 use mathlib.Core.List.{List}
 use native.Mathlib.Omega.{arith}
 use lib.ListN.{length, getD}
@@ -15,10 +15,10 @@ use Rattle.keys.specs.declared.Earlier.{Earlier}
 use Rattle.keys.specs.declared.Earlier.the-variants.{At, Nothing}
 use Rattle.keys.specs.declared.Checked.{Checked}
 use Rattle.keys.specs.declared.Checked.the-variants.{Fresh, Same, Full}
-use Rattle.keys.specs.Keys.{capacity, earlierOf, checkedBy, checkedOf, writtenBy, countBy}
+use Rattle.keys.specs.Keys.{capacity, checkedBy, checkedOf, writtenBy, countBy}
 use Rattle.attributes.specs.declared.Span.{Span}
 use Rattle.attributes.specs.declared.Place.{Place}
-use Rattle.attributes.specs.declared.Place.the-variants.{Done, Next, SkipValue, SkipEqValue}
+use Rattle.attributes.specs.declared.Place.the-variants.{Next}
 use Rattle.attributes.specs.declared.Start.{Start}
 use Rattle.attributes.specs.declared.Start.the-variants.{From, Ended}
 use Rattle.attributes.specs.declared.KeyRead.{KeyRead}
@@ -31,7 +31,7 @@ use Rattle.attributes.specs.Read.{isAt, recoverOf, keyEq, keyTo, keyFrom, keyAt
 use Rattle.attributes.specs.Next.{Keys, Reading, reading, checkOf, keptBy, placeAt, bareBy, bareTo, valuedBy, valuedTo, readAt, stepFrom, stepOf, keysOf, stateGood, noKeys, badReading, leaves, nextOf}
 use Rattle.attributes.proofs.Whole.{starts-in}
 use Rattle.attributes.proofs.Ways.{value-ways, step-ways}
-use Rattle.law_steps.specs.Steps.{ValuedKey, BareKey, valued, bare, movedTo, movedWith, atOrDone, EndLeaves, nothingMore, asItWas, Records, RecordsIts, RepeatLeaves, skipsFrom, goesOn, Left, LeavesExact}
+use Rattle.law_steps.specs.Steps.{ValuedKey, valued, movedWith, onlySpace, nowhere, leftBy, skipsFrom, goesOn, Left, LeavesExact}
 
 -- Where no key is read only whitespace follows.
 
@@ -123,21 +123,21 @@ module _ (s : List ℕ) (st : IterState) where
       valued-leaves Full v = refl
 
     read-leaves : Leaves (readAt s (st .html) checks (keysOf st) o)
-    unfolding Left leaves keysOf placeAt
+    unfolding Left leaves keysOf placeAt leftBy
     read-leaves =
         let h = starts-in s (st .place) o goes in
         step-ways s (st .html) checks (keysOf st) o h (λ (x : Reading) (_ : ℕ). Leaves x)
-        (λ e. nothingMore o goes h (only-space s o h e) refl)
+        (λ e. record { nothing = onlySpace o goes h (only-space s o h e); leaves = refl })
         (λ key at e i m. refl)
         (λ key at c e i m v. bare-leaves key at c e m v)
         (λ key eq c e i a v. valued-leaves key eq e c v)
 
   step-leaves : Leaves (stepOf s (st .html) checks (keysOf st) (st .place))
-  unfolding stepOf stepFrom Left leaves keysOf
+  unfolding stepOf stepFrom Left leaves keysOf leftBy
   step-leaves = by (recoverOf s (st .place)) refl where
     by : (x : Start) → recoverOf s (st .place) ≡ x → Leaves (stepFrom s (st .html) checks (keysOf st) (st .place) x)
     by (From o) e = read-leaves o e
-    by Ended e = asItWas e refl
+    by Ended e = record { nothing = nowhere e; leaves = refl }
 
 pub leaves-exact : LeavesExact
 unfolding LeavesExact nextOf leaves badReading noKeys Left

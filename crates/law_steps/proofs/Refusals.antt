@@ -1,39 +1,37 @@
 -- Refusals 6 and 7 come exactly when document 01 says. A state is good exactly if no clause of 7 holds of it; a step from a
 -- good one never answers 7, and answers 6 only where the verdict on its key is that the table is full.
-use Prim.Native.Nat.{ℕ, _+_, _≤_, _<_}
+use Prim.Native.Nat.{ℕ, _≤_, _<_}
 use mathlib.Core.Path.{_≡_, refl, sym, ap, subst, _∙_}
 use mathlib.Core.Bool.{Bool, true, false, not, _&&_, false≢true, true≢false}
 use mathlib.Core.List.{List}
 use native.Mathlib.Omega.{arith}
 use lib.ListN.{length, getD}
 use lib.Dec.{eqb, ltb, leb}
-use borrow.Author.Tests.{ltb-true, ltb-false, leb-true, leb-false, eqb-true, eqb-false, le-ltb, not-true}
+use borrow.Author.Tests.{ltb-true, ltb-false, leb-true, leb-false, eqb-true, eqb-false}
 use Rattle.scan.specs.First.{firstTo, pick}
-use Rattle.scan.specs.Bytes.{part}
 use Rattle.scan.proofs.Laws.{picks, to-first, to-past}
 use Rattle.scan.proofs.Bytes.{both}
 use Rattle.keys.specs.declared.Earlier.{Earlier}
 use Rattle.keys.specs.declared.Earlier.the-variants.{At, Nothing}
 use Rattle.keys.specs.declared.Checked.{Checked}
 use Rattle.keys.specs.declared.Checked.the-variants.{Fresh, Same, Full}
-use Rattle.keys.specs.Keys.{capacity, keyGood, keyBad, tableGood, nameAt, earlierOf, checkedBy, checkedOf}
+use Rattle.keys.specs.Keys.{capacity, keyGood, keyBad, tableGood, earlierOf, checkedBy, checkedOf}
 use Rattle.keys.proofs.Laws.{table-in, table-all, earlier-none, earlier-absent, checked-full}
 use Rattle.attributes.specs.declared.Span.{Span}
 use Rattle.attributes.specs.declared.Place.{Place}
 use Rattle.attributes.specs.declared.Place.the-variants.{Done, Next, SkipValue, SkipEqValue}
 use Rattle.attributes.specs.declared.Start.{Start}
 use Rattle.attributes.specs.declared.Start.the-variants.{From, Ended}
-use Rattle.attributes.specs.declared.KeyRead.the-variants.{Bare, Valued}
 use Rattle.attributes.specs.declared.Answer.{Answer}
 use Rattle.attributes.specs.declared.Answer.the-variants.{End, DoubleQ, SingleQ, Unquoted, Empty, ExpectedEq, ExpectedValue, UnquotedValue, ExpectedQuote, Duplicated, KeyTableFull, BadState}
 use Rattle.attributes.specs.declared.Found.{Found}
 use Rattle.attributes.specs.declared.IterState.{IterState}
 use Rattle.attributes.specs.declared.Step.{Step}
-use Rattle.attributes.specs.Read.{isAt, recoverOf, keyAt, quoted, closedOf, valueAt}
-use Rattle.attributes.specs.Next.{Reading, checkOf, bareBy, bareTo, bareOf, valuedBy, valuedTo, valuedOf, readAt, stepFrom, stepOf, placeGood, keysOf, stateGood, badReading, leaves, nextOf}
+use Rattle.attributes.specs.Read.{isAt, recoverOf, quoted, closedOf, valueAt}
+use Rattle.attributes.specs.Next.{Reading, checkOf, bareBy, bareTo, bareOf, valuedBy, valuedTo, valuedOf, stepFrom, stepOf, placeGood, keysOf, stateGood, badReading, leaves, nextOf}
 use Rattle.attributes.proofs.Whole.{starts-in, step-bare, step-valued, next-bad, next-steps}
 use Rattle.attributes.proofs.Ways.{value-ways, step-ways}
-use Rattle.law_steps.specs.Steps.{FullTables, Broken, emptyKey, outsideKey, manyKeys, outsideSkip, outsideSkipEq, noEq, SevenExactly, ValuedKey, BareKey, Due, valued, bare, NoRoom, SixExactly}
+use Rattle.law_steps.specs.Steps.{FullTables, Broken, emptyKey, outsideKey, manyKeys, outsideSkip, outsideSkipEq, noEq, SevenExactly, Due, valued, bare, NoRoom, SixExactly}
 
 -- Refusal 7.
 

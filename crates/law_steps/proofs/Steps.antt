@@ -1,27 +1,34 @@
--- Steps one after another: the end stays, and every other answer but 7 moves on. Where the end comes the state was good,
--- and what it leaves is the same state, or the same one done: both are good, and the next step is the end again.
+-- When the end comes, and steps one after another: the end stays, and every other answer but 7 moves on. Where the end comes
+-- the state was good, and what it leaves is the same state, or the same one done: both are good, and the next step is
+-- the end again.
 use Prim.Native.Nat.{ℕ, _≤_, _<_}
 use mathlib.Core.Path.{_≡_, refl, sym, ap, subst, _∙_}
-use mathlib.Core.Bool.{Bool, true, false, _&&_}
+use mathlib.Core.Bool.{Bool, true, false, not}
 use mathlib.Core.List.{List}
 use native.Mathlib.Omega.{arith}
-use lib.ListN.{length}
-use Rattle.scan.proofs.Bytes.{both, and-on}
+use lib.ListN.{length, getD}
+use Rattle.scan.specs.First.{firstFrom}
+use Rattle.scan.specs.Bytes.{isSpace, notSpace}
+use Rattle.scan.proofs.Laws.{past, skip}
+use Rattle.scan.proofs.Bytes.{both}
 use Rattle.keys.specs.Keys.{tableGood}
 use Rattle.attributes.specs.declared.Place.{Place}
 use Rattle.attributes.specs.declared.Place.the-variants.{Done, Next, SkipValue, SkipEqValue}
 use Rattle.attributes.specs.declared.Start.{Start}
 use Rattle.attributes.specs.declared.Start.the-variants.{From, Ended}
+use Rattle.attributes.specs.declared.KeyRead.the-variants.{NoKey}
 use Rattle.attributes.specs.declared.Answer.{Answer}
 use Rattle.attributes.specs.declared.Answer.the-variants.{End, BadState}
 use Rattle.attributes.specs.declared.IterState.{IterState}
 use Rattle.attributes.specs.declared.Step.{Step}
-use Rattle.attributes.specs.Read.{found, recoverOf}
-use Rattle.attributes.specs.Next.{reading, readAt, stepOf, placeGood, keysOf, stateGood, badReading, leaves, nextOf}
-use Rattle.attributes.proofs.Whole.{at-in, starts-in, step-ended, step-reads, next-bad, next-steps}
+use Rattle.attributes.specs.Read.{found, recoverOf, keyAt}
+use Rattle.attributes.specs.Next.{reading, readAt, placeGood, keysOf, stateGood, badReading, leaves, nextOf}
+use Rattle.attributes.proofs.Paths.{key-none}
+use Rattle.attributes.proofs.Whole.{at-in, starts-in, step-ended, step-reads, step-none, next-bad, next-steps}
 use Rattle.attributes.proofs.Progress as progress
-use Rattle.law_steps.specs.Steps.{movedTo, EndLeaves, nothingMore, asItWas, Left, LeavesExact, EndStays, Beyond, Forward, StepForward}
+use Rattle.law_steps.specs.Steps.{movedTo, Broken, NothingLeft, onlySpace, nowhere, leftBy, EndLeaves, Left, LeavesExact, EndExactly, EndStays, Beyond, Forward, StepForward}
 use Rattle.law_steps.proofs.Leaves.{leaves-exact}
+use Rattle.law_steps.proofs.Refusals.{good-whole, bad-broken}
 
 -- The end.
 
@@ -53,15 +60,45 @@ module _ (s : List ℕ) (st : IterState) where
   done-ended = refl
 
 -- what the end leaves stays
+left-stays : (s : List ℕ) (st : IterState) → stateGood s st ≡ true → (x : NothingLeft s (st .place)) → nextOf s (leftBy s st x) ≡ ended (leftBy s st x)
+unfolding leftBy
+left-stays s st g (onlySpace o goes inside space) = stays s (movedTo Done st) (done-good s st g) (done-ended s st)
+left-stays s st g (nowhere goes) = stays s st g goes
+
 end-leaves-stays : (s : List ℕ) (st left : IterState) → stateGood s st ≡ true → EndLeaves s st left → nextOf s left ≡ ended left
-end-leaves-stays s st left g (nothingMore o goes inside space e) = rw e (stays s (movedTo Done st) (done-good s st g) (done-ended s st))
-end-leaves-stays s st left g (asItWas goes e) = rw e (stays s st g goes)
+end-leaves-stays s st left g l = rw (l .leaves) (left-stays s st g (l .nothing))
 
 pub end-stays : EndStays
 unfolding EndStays LeavesExact Left
 end-stays s st e =
     let l : EndLeaves s st (nextOf s st .state) = subst (λ (a : Answer). Left s st a (nextOf s st .state)) e (leaves-exact s st) in
     end-leaves-stays s st (nextOf s st .state) (end-good s st e) l ∙ ap (λ (a : Answer). record { answer = a; state = nextOf s st .state }) (sym e)
+
+-- Where only whitespace follows no key is read.
+space-no-key : (s : List ℕ) (o : ℕ) → o ≤ length s → ((k : ℕ) → o ≤ k → k < length s → isSpace (getD s k 0) ≡ true) → NoKey ≡ keyAt s o
+unfolding notSpace
+space-no-key s o h space =
+    let f = skip notSpace s o (length s) h (omega arith) (λ k lo hi. ap not (space k lo hi)) ∙ past notSpace s (length s) (omega arith) in
+    key-none s o (firstFrom notSpace s o) refl (omega arith)
+
+nothing-ends : (s : List ℕ) (st : IterState) → stateGood s st ≡ true → NothingLeft s (st .place) → nextOf s st .answer ≡ End
+unfolding leaves
+nothing-ends s st g (nowhere e) = ap (λ (x : Step). x .answer) (stays s st g e)
+nothing-ends s st g (onlySpace o goes inside space) =
+    ap (λ (x : Step). x .answer)
+    (sym (next-steps s st g (reading (found End Done) (keysOf st))
+    (step-none s (st .html) (st .«check_duplicates») (keysOf st) (st .place) o goes (sym (space-no-key s o inside space)))))
+
+pub end-exactly : EndExactly
+unfolding EndExactly LeavesExact Left
+end-exactly s st full = (
+  λ e.
+      (good-whole s st (end-good s st e), subst (λ (a : Answer). Left s st a (nextOf s st .state)) e (leaves-exact s st) .nothing),
+  λ whole. nothing-ends s st (by whole (stateGood s st) refl),
+) where
+  by : (Broken s st → ⊥) → (t : Bool) → stateGood s st ≡ t → stateGood s st ≡ true
+  by whole true g = g
+  by whole false g = absurd (whole (bad-broken s st full g))
 
 -- On and on.
 

@@ -2,7 +2,7 @@
 -- the column "Leaves". Each promise is over `nextOf`, what `next` answers and leaves of any tag and any state.
 use Prim.Native.Nat.{ℕ, _+_, _≤_, _<_}
 use mathlib.Core.Path.{_≡_}
-use mathlib.Core.Bool.{Bool, true, false}
+use mathlib.Core.Bool.{true}
 use mathlib.Core.List.{List}
 use lib.ListN.{length, getD, set, replicate}
 use lib.Dec.{ltb}
@@ -126,13 +126,23 @@ emptied st =
 abbrev pub atOrDone : List ℕ → ℕ → Place
 atOrDone s pos = pick (ltb pos (length s)) (Next pos) Done
 
--- The end: "done if the place, after any skip, is in the tag or at its end and only whitespace follows; else as it was".
-pub data EndLeaves (s : List ℕ) (st left : IterState) : Type 0 where
-  nothingMore :
-      (o : ℕ) → recoverOf s (st .place) ≡ From o → o ≤ length s
+-- There is nothing to read: "the place, after any skip, is in the tag or at its end and only whitespace follows", or
+-- reading does not go on from it ("done, a place past the end, a skip with no whitespace after it").
+pub data NothingLeft (s : List ℕ) (place : Place) : Type 0 where
+  onlySpace :
+      (o : ℕ) → recoverOf s place ≡ From o → o ≤ length s
       → ((k : ℕ) → o ≤ k → k < length s → isSpace (getD s k 0) ≡ true)
-      → left ≡ movedTo Done st → EndLeaves s st left
-  asItWas : recoverOf s (st .place) ≡ Ended → left ≡ st → EndLeaves s st left
+      → NothingLeft s place
+  nowhere : recoverOf s place ≡ Ended → NothingLeft s place
+
+-- The end leaves done in the first case, else all "as it was".
+unfoldable pub leftBy : (s : List ℕ) (st : IterState) → NothingLeft s (st .place) → IterState
+leftBy s st (onlySpace o goes inside space) = movedTo Done st
+leftBy s st (nowhere ended) = st
+
+pub record EndLeaves (s : List ℕ) (st left : IterState) : Type 0 where
+  pub nothing : NothingLeft s (st .place)
+  pub leaves : left ≡ leftBy s st nothing
 
 -- The key that was read is recorded.
 pub record Records (s : List ℕ) (st left : IterState) (place : Place) (key : Span) : Type 0 where
@@ -170,6 +180,13 @@ Left s st BadState left = left ≡ emptied st
 -- Every step leaves what its answer's row says, every place of both tables, for every tag and every state.
 unfoldable pub LeavesExact : Type 0
 LeavesExact = (s : List ℕ) (st : IterState) → Left s st (nextOf s st .answer) (nextOf s st .state)
+
+-- The end comes exactly if 7 does not and there is nothing to read.
+unfoldable pub EndExactly : Type 0
+EndExactly =
+    (s : List ℕ) (st : IterState) → FullTables st →
+    (nextOf s st .answer ≡ End → (Broken s st → ⊥) × NothingLeft s (st .place))
+    × ((Broken s st → ⊥) → NothingLeft s (st .place) → nextOf s st .answer ≡ End)
 
 -- Steps one after another.
 

@@ -1,7 +1,7 @@
 -- `attrs::count_on` meets its contract: the answers counted so far are those of the batches read, and the reader stands
 -- behind them. The measure is how many answers can be left.
-use Prim.Native.Nat.{ℕ, _+_, _-_, _≤_, _<_}
-use mathlib.Core.Path.{_≡_, refl, sym, ap, _∙_}
+use Prim.Native.Nat.{_+_, _-_}
+use mathlib.Core.Path.{_≡_, refl}
 use mathlib.Core.Bool.{true, false}
 use native.Mathlib.Omega.{arith}
 use lib.ListN.{length, length-append}

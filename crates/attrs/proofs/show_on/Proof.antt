@@ -1,6 +1,6 @@
 -- `attrs::show_on` meets its contract: each turn writes the lines of the next answers, where the last turn stopped. The
 -- measure is how many answers can be left.
-use Prim.Native.Nat.{ℕ, _+_, _-_, _≤_}
+use Prim.Native.Nat.{_+_, _-_}
 use mathlib.Core.Path.{_≡_, refl, sym}
 use mathlib.Core.Bool.{true, false}
 use native.Mathlib.Omega.{arith}
