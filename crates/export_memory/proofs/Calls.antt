@@ -12,7 +12,7 @@ use Rattle.scope_table.specs.Answer.{toldOf, changeNumbers}
 use Rattle.scope_table.specs.Lent.{Given, given}
 use Rattle.scope_table.specs.declared.Head.{Head}
 use Rattle.scope_table.specs.declared.Outcome.{Outcome}
-use Rattle.export_memory.specs.Boundary.{WRONG, headList, headIn, codeOf, detailOf, fixedOf, Across, across, acrossOf, changeIn, Asked, asked, askedOf, askIn}
+use Rattle.export_memory.specs.Boundary.{WRONG, headList, headIn, codeOf, detailOf, fixedOf, Crossed, crossed, crossedOf, changeIn, Asked, asked, askedOf, askIn}
 
 -- Arrays of two and of four numbers.
 
@@ -65,11 +65,11 @@ fixed-detail n head detail d = rw d (and-false (eqb (length head) 4))
 -- Calls that change a resolver.
 
 module _ (n : ℕ) (call : (text records : List ℕ) → Head → Given) (text records head detail : List ℕ) where
-  pub change-head : eqb (length head) 4 ≡ false → across WRONG text records head detail ≡ changeIn n call text records head detail
+  pub change-head : eqb (length head) 4 ≡ false → crossed WRONG text records head detail ≡ changeIn n call text records head detail
   unfolding changeIn
   change-head h = rw (fixed-head n head detail h)
 
-  pub change-detail : eqb (length detail) n ≡ false → across WRONG text records head detail ≡ changeIn n call text records head detail
+  pub change-detail : eqb (length detail) n ≡ false → crossed WRONG text records head detail ≡ changeIn n call text records head detail
   unfolding changeIn
   change-detail d = rw (fixed-detail n head detail d)
 
@@ -77,12 +77,12 @@ module _ (n : ℕ) (call : (text records : List ℕ) → Head → Given) (text r
       eqb (length head) 4 ≡ true → eqb (length detail) n ≡ true →
       given (out .answer) text′ records′ (out .head) ≡ call text records (headIn head) →
       asked r detail′ ≡ askedOf n (changeNumbers (out .answer)) → head′ ≡ headList (out .head) →
-      across r text′ records′ head′ detail′ ≡ changeIn n call text records head detail
-  unfolding changeIn acrossOf askedOf
+      crossed r text′ records′ head′ detail′ ≡ changeIn n call text records head detail
+  unfolding changeIn crossedOf askedOf
   change-made out text′ records′ head′ r detail′ h d made told left =
-      ap (λ (x : Asked). across (x .result) text′ records′ head′ (x .detail)) told
-      ∙ ap (λ (x : List ℕ). across (codeOf (changeNumbers (out .answer))) text′ records′ x (detailOf n (changeNumbers (out .answer)))) left
-      ∙ ap (acrossOf n) made
+      ap (λ (x : Asked). crossed (x .result) text′ records′ head′ (x .detail)) told
+      ∙ ap (λ (x : List ℕ). crossed (codeOf (changeNumbers (out .answer))) text′ records′ x (detailOf n (changeNumbers (out .answer)))) left
+      ∙ ap (crossedOf n) made
       ∙ sym (rw (fixed n head detail h d))
 
 -- calls that have no detail

@@ -37,25 +37,25 @@ fixedOf n head detail = eqb (length head) 4 && eqb (length detail) n
 -- Calls that change a resolver.
 
 -- what a call answers, and the lent memory after it
-pub record Across : Type 0 where
+pub record Crossed : Type 0 where
   pub result : ℕ
   pub text : List ℕ
   pub records : List ℕ
   pub head : List ℕ
   pub detail : List ℕ
 
-abbrev pub across : ℕ → (text records head detail : List ℕ) → Across
-across r text records head detail =
+abbrev pub crossed : ℕ → (text records head detail : List ℕ) → Crossed
+crossed r text records head detail =
     record { result = r; text = text; records = records; head = head; detail = detail }
 
-unfoldable pub acrossOf : ℕ → Given → Across
-acrossOf n g =
-    across (codeOf (changeNumbers (g .answer))) (g .text) (g .records) (headList (g .head)) (detailOf n (changeNumbers (g .answer)))
+unfoldable pub crossedOf : ℕ → Given → Crossed
+crossedOf n g =
+    crossed (codeOf (changeNumbers (g .answer))) (g .text) (g .records) (headList (g .head)) (detailOf n (changeNumbers (g .answer)))
 
 -- A call on lent memory, with a detail of n numbers.
-unfoldable pub changeIn : ℕ → (call : (text records : List ℕ) → Head → Given) (text records head detail : List ℕ) → Across
+unfoldable pub changeIn : ℕ → (call : (text records : List ℕ) → Head → Given) (text records head detail : List ℕ) → Crossed
 changeIn n call text records head detail =
-    pick (fixedOf n head detail) (acrossOf n (call text records (headIn head))) (across WRONG text records head detail)
+    pick (fixedOf n head detail) (crossedOf n (call text records (headIn head))) (crossed WRONG text records head detail)
 
 -- Calls that ask a resolver.
 

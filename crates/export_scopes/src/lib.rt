@@ -7,7 +7,7 @@ ghost use Rattle.scope_table.specs.Lent.{freshIn, lentOf};
 ghost use Rattle.scope_change.specs.Change.{levelOf};
 ghost use Rattle.scope_declare.specs.Declare.{addOf, popOf};
 ghost use Rattle.scope_push.specs.Push.{pushOf};
-ghost use Rattle.export_memory.specs.Boundary.{across, changeIn};
+ghost use Rattle.export_memory.specs.Boundary.{crossed, changeIn};
 ghost use Rattle.export_scopes.specs.Layout.{layoutOf};
 ghost use Rattle.export_scopes.specs.Declared.{declaredBy};
 use export_memory::DETAIL;
@@ -50,7 +50,7 @@ pub extern "C" fn mz_layout(what: usize) -> usize
 #[no_mangle]
 pub extern "C" fn mz_fresh(text: &mut [u8], records: &mut [usize], head: &mut [usize; 4]) -> usize
     ensures { λ r.
-        ⌜ across r (now (text .exit)) (now (records .exit)) (now (head .exit)) []
+        ⌜ crossed r (now (text .exit)) (now (records .exit)) (now (head .exit)) []
         ≡ changeIn 0 freshIn (now (text .entry)) (now (records .entry)) (now (head .entry)) [] ⌝ }
 {
     if !export_memory::has(head, HEAD) {
@@ -72,7 +72,7 @@ pub extern "C" fn mz_push(
     detail: &mut [usize; 2],
 ) -> usize
     ensures { λ r.
-        ⌜ across r (now (text .exit)) (now (records .exit)) (now (head .exit)) (now (detail .exit))
+        ⌜ crossed r (now (text .exit)) (now (records .exit)) (now (head .exit)) (now (detail .exit))
         ≡ changeIn 2 (lentOf (pushOf (now (tag .entry)) at)) (now (text .entry)) (now (records .entry)) (now (head .entry)) (now (detail .entry)) ⌝ }
 {
     if !export_memory::has(head, HEAD) {
@@ -90,7 +90,7 @@ pub extern "C" fn mz_push(
 #[no_mangle]
 pub extern "C" fn mz_pop(text: &mut [u8], records: &mut [usize], head: &mut [usize; 4]) -> usize
     ensures { λ r.
-        ⌜ across r (now (text .exit)) (now (records .exit)) (now (head .exit)) []
+        ⌜ crossed r (now (text .exit)) (now (records .exit)) (now (head .exit)) []
         ≡ changeIn 0 (lentOf popOf) (now (text .entry)) (now (records .entry)) (now (head .entry)) [] ⌝ }
 {
     if !export_memory::has(head, HEAD) {
@@ -110,7 +110,7 @@ pub extern "C" fn mz_set_level(
     to: u16,
 ) -> usize
     ensures { λ r.
-        ⌜ across r (now (text .exit)) (now (records .exit)) (now (head .exit)) []
+        ⌜ crossed r (now (text .exit)) (now (records .exit)) (now (head .exit)) []
         ≡ changeIn 0 (lentOf (levelOf to)) (now (text .entry)) (now (records .entry)) (now (head .entry)) [] ⌝ }
 {
     if !export_memory::has(head, HEAD) {
@@ -143,7 +143,7 @@ pub extern "C" fn mz_add<'p>(
     detail: &mut [usize; 2],
 ) -> usize
     ensures { λ r.
-        ⌜ across r (now (text .exit)) (now (records .exit)) (now (head .exit)) (now (detail .exit))
+        ⌜ crossed r (now (text .exit)) (now (records .exit)) (now (head .exit)) (now (detail .exit))
         ≡ changeIn 2 (lentOf (addOf (declaredBy named) (now (prefix .entry)) (now (value .entry))))
         (now (text .entry)) (now (records .entry)) (now (head .entry)) (now (detail .entry)) ⌝ }
 {

@@ -12,7 +12,7 @@ use Rattle.law_one_answer.specs.Settled.{Settled}
 use Rattle.batch.specs.declared.Batch.{Batch}
 use Rattle.lines.specs.declared.Paged.{Paged}
 use Rattle.mezzulidda.specs.Reading.{Reading as Batch-reading}
-use Rattle.export_memory.specs.Boundary.{Across, Asked}
+use Rattle.export_memory.specs.Boundary.{Crossed, Asked}
 use Rattle.export_names.specs.Names.{Names}
 use Rattle.law_one_answer.proofs.Ends.{follows, together, alone, read-off}
 use Rattle.lines.proofs.put_lines as lines·put-lines
@@ -94,19 +94,19 @@ module _ {M : Type 1} (𝓤 : URA M) (H : Heap 𝓤) (A : Atoms 𝓤) (mem : Mem
   export-scopes-mz-layout κs a g y z = alone 𝓤 _ y z refl
 
   pub export-scopes-mz-fresh : Settled 𝓤 export-scopes·mz-fresh.ended (export-scopes·mz-fresh.clauses 𝓤 H A mem run)
-  export-scopes-mz-fresh κs a g y z = read-off 𝓤 (λ (x : Across). (x .result, (x .text, (x .records, (x .head, tt)))))
+  export-scopes-mz-fresh κs a g y z = read-off 𝓤 (λ (x : Crossed). (x .result, (x .text, (x .records, (x .head, tt)))))
 
   pub export-scopes-mz-push : Settled 𝓤 export-scopes·mz-push.ended (export-scopes·mz-push.clauses 𝓤 H A mem run)
-  export-scopes-mz-push κs a g y z = read-off 𝓤 (λ (x : Across). (x .result, (x .text, (x .records, (x .head, (tt, (tt, (x .detail, tt))))))))
+  export-scopes-mz-push κs a g y z = read-off 𝓤 (λ (x : Crossed). (x .result, (x .text, (x .records, (x .head, (tt, (tt, (x .detail, tt))))))))
 
   pub export-scopes-mz-pop : Settled 𝓤 export-scopes·mz-pop.ended (export-scopes·mz-pop.clauses 𝓤 H A mem run)
-  export-scopes-mz-pop κs a g y z = read-off 𝓤 (λ (x : Across). (x .result, (x .text, (x .records, (x .head, tt)))))
+  export-scopes-mz-pop κs a g y z = read-off 𝓤 (λ (x : Crossed). (x .result, (x .text, (x .records, (x .head, tt)))))
 
   pub export-scopes-mz-set-level : Settled 𝓤 export-scopes·mz-set-level.ended (export-scopes·mz-set-level.clauses 𝓤 H A mem run)
-  export-scopes-mz-set-level κs a g y z = read-off 𝓤 (λ (x : Across). (x .result, (x .text, (x .records, (x .head, (tt, tt))))))
+  export-scopes-mz-set-level κs a g y z = read-off 𝓤 (λ (x : Crossed). (x .result, (x .text, (x .records, (x .head, (tt, tt))))))
 
   pub export-scopes-mz-add : Settled 𝓤 export-scopes·mz-add.ended (export-scopes·mz-add.clauses 𝓤 H A mem run)
-  export-scopes-mz-add κs a g y z = read-off 𝓤 (λ (x : Across). (x .result, (x .text, (x .records, (x .head, (tt, (tt, (tt, (x .detail, tt)))))))))
+  export-scopes-mz-add κs a g y z = read-off 𝓤 (λ (x : Crossed). (x .result, (x .text, (x .records, (x .head, (tt, (tt, (tt, (x .detail, tt)))))))))
 
   pub export-lookups-mz-resolve : Settled 𝓤 export-lookups·mz-resolve.ended (export-lookups·mz-resolve.clauses 𝓤 H A mem run)
   export-lookups-mz-resolve κs a g y z = read-off 𝓤 (λ (x : Asked). (x .result, (tt, (tt, (tt, (tt, (tt, (x .detail, tt))))))))
