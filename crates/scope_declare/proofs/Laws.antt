@@ -1,14 +1,13 @@
 -- What a declaration leaves, in two ways: the resolver as it was, or one binding more that there is room for. All that is
 -- said of a declaration goes by these two. On lent memory it is kept as it is, or goes to `append_in` as it was judged.
-use Prim.Native.Nat.{ℕ, _+_, _-_, _*_, _≤_, _<_}
-use mathlib.Core.Path.{_≡_, refl, sym, ap, _∙_}
-use mathlib.Core.Bool.{Bool, true, false, false≢true}
+use Prim.Native.Nat.{ℕ, _+_, _-_, _≤_, _<_}
+use mathlib.Core.Path.{_≡_, refl, ap, _∙_}
+use mathlib.Core.Bool.{Bool, true, false}
 use mathlib.Core.List.{List, _++_}
 use native.Mathlib.Omega.{arith}
 use lib.Dec.{leb, ltb}
 use lib.ListN.{length, take, length-append, length-take, length-replicate}
 use Rattle.scan.specs.First.{pick}
-use Rattle.scan.specs.Lists.{over}
 use Rattle.scan.proofs.Laws.{picks}
 use Rattle.scan.proofs.Lists.{over-length}
 use Rattle.name.specs.Bind.{reservedBind}
@@ -20,7 +19,7 @@ use Rattle.scope_table.specs.Records.{rowAt, rowOf, bindingOf}
 use Rattle.scope_table.specs.Lists.{cut}
 use Rattle.scope_table.specs.Table.{TEXT, RECORDS, NUMBERS, resolverOf, validOf}
 use Rattle.scope_table.specs.Answer.{isDone, changed}
-use Rattle.scope_table.specs.Lent.{standsFor, fitsOf, Given, given, lentOf}
+use Rattle.scope_table.specs.Lent.{fitsOf, Given, given, lentOf}
 use Rattle.scope_table.specs.declared.Head.{Head}
 use Rattle.scope_table.specs.declared.NamespaceResolver.{NamespaceResolver}
 use Rattle.scope_table.specs.declared.Changed.{Changed}

@@ -1,7 +1,7 @@
 -- Refusals 12 to 15 hold the text that the crate's errors hold: their bounds mark it where the declaration stands. For `add`
 -- that is its argument, whole.
-use Prim.Native.Nat.{ℕ, _+_, _-_, _≤_, zero-le}
-use mathlib.Core.Path.{_≡_, refl, sym, ap, _∙_}
+use Prim.Native.Nat.{ℕ, _+_, _-_, zero-le}
+use mathlib.Core.Path.{_≡_, refl}
 use mathlib.Core.Bool.{Bool, true, false}
 use mathlib.Core.List.{List}
 use native.Mathlib.Omega.{arith}
@@ -17,9 +17,7 @@ use Rattle.name.specs.declared.NamedCheck.{NamedCheck}
 use Rattle.name.specs.declared.NamedCheck.the-variants as Check
 use Rattle.scope_table.specs.Table.{validOf}
 use Rattle.scope_table.specs.Answer.{changeNumbers, isDone, changed}
-use Rattle.scope_table.specs.declared.Head.{Head}
 use Rattle.scope_table.specs.declared.NamespaceResolver.{NamespaceResolver}
-use Rattle.scope_table.specs.declared.Changed.{Changed}
 use Rattle.scope_table.specs.declared.NamespaceResult.{NamespaceResult}
 use Rattle.scope_table.specs.declared.NamespaceResult.the-variants.{Done, TooManyBindings, BindingTableFull, TextFull, BadResolver}
 use Rattle.scope_change.specs.Change.{whole, refusalOf, appendOf}
@@ -27,8 +25,6 @@ use Rattle.scope_change.specs.declared.Room.{Room}
 use Rattle.scope_declare.specs.Declare.{wholly, namedOf, judgeOf, settleOf, declareOf, addOf}
 use Rattle.scope_declare.specs.Texts.{Marks, HoldsText}
 use Rattle.scope_declare.specs.declared.Places.{Places}
-use Rattle.scope_declare.specs.declared.Judged.{Judged}
-use Rattle.scope_declare.specs.declared.Judged.the-variants.{Keep, Bind}
 
 -- 16, 18, 19 hold none
 refusal-by : (ps vs text : List ℕ) (limit : ℕ) (t₁ t₂ t₃ : Bool) → HoldsText ps vs (pick t₁ (TooManyBindings limit) (pick t₂ BindingTableFull (pick t₃ TextFull Done))) text

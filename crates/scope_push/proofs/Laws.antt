@@ -1,8 +1,8 @@
 -- How `push` ends on lent memory: the two refusals that come first, what went through, and what is taken back. By value the
 -- arrays have full size, and keep it.
 use Prim.Native.Nat.{ℕ, _+_, _≤_}
-use mathlib.Core.Path.{_≡_, refl, sym, ap, _∙_}
-use mathlib.Core.Bool.{Bool, true, false}
+use mathlib.Core.Path.{_≡_, refl, ap, _∙_}
+use mathlib.Core.Bool.{true, false}
 use mathlib.Core.List.{List, [], _∷_}
 use mathlib.Core.Logic.{⊎-elim}
 use native.Mathlib.Omega.{arith}
@@ -10,7 +10,6 @@ use types.Run.{OneOf}
 use denote.Enum.Declared.{tagOf}
 use borrow.Author.Tests.{eqb-false}
 use lib.Dec.{leb}
-use lib.ListN.{length}
 use Rattle.scan.specs.First.{pick}
 use Rattle.scan.proofs.Laws.{picks}
 use Rattle.scope_table.specs.Lists.{cut}

@@ -1,4 +1,5 @@
 pub mod Run
-pub mod Texts
 pub mod Turns
 pub mod Laws
+pub mod Texts
+pub mod Examples

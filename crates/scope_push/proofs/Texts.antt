@@ -1,15 +1,15 @@
 -- What a refused `push` holds is marked in its tag: the keys and values of the iterator's answers lie in the tag, the prefix is
 -- the end of its key, and so each declaration stands at its places.
-use Prim.Native.Nat.{ℕ, zero, suc, _+_, _-_, _≤_, _<_}
+use Prim.Native.Nat.{ℕ, zero, suc, _+_, _-_, _≤_}
 use mathlib.Core.Path.{_≡_, refl, sym, ap, subst, _∙_}
-use mathlib.Core.Bool.{Bool, true, false, _&&_, false≢true}
+use mathlib.Core.Bool.{Bool, true, false, false≢true}
 use mathlib.Core.List.{List, [], _∷_}
 use native.Mathlib.Omega.{arith}
 use lib.Dec.{eqb, leb}
 use lib.ListN.{length, take, drop, getD, length-drop}
-use lib.Seq.{drop-drop, drop-length}
+use lib.Seq.{drop-drop}
 use borrow.Author.Tests.{leb-true, leb-false}
-use Rattle.scan.specs.First.{pick, firstFrom}
+use Rattle.scan.specs.First.{firstFrom}
 use Rattle.scan.specs.Bytes.{part, isByte, notSpace}
 use Rattle.scan.proofs.Laws.{first, picks}
 use Rattle.scan.proofs.Lists.{part-is, part-length}
@@ -22,25 +22,23 @@ use Rattle.name.specs.declared.NamedCheck.the-variants as Check
 use Rattle.keys.specs.declared.Checked.{Checked}
 use Rattle.keys.specs.declared.Checked.the-variants.{Fresh, Same, Full}
 use Rattle.attributes.specs.declared.Span.{Span}
-use Rattle.attributes.specs.declared.Place.{Place}
 use Rattle.attributes.specs.declared.Start.{Start}
 use Rattle.attributes.specs.declared.Start.the-variants.{From, Ended}
 use Rattle.attributes.specs.declared.Answer.{Answer}
 use Rattle.attributes.specs.declared.Answer.the-variants.{End, DoubleQ, SingleQ, Unquoted, Empty, ExpectedEq, ExpectedValue, UnquotedValue, ExpectedQuote, Duplicated, KeyTableFull, BadState}
 use Rattle.attributes.specs.declared.Found.{Found}
 use Rattle.attributes.specs.Read.{span, recoverOf, quoted, closedOf, valueAt}
-use Rattle.attributes.specs.Next.{Keys, Reading, bareBy, bareTo, valuedBy, valuedTo, readAt, opened, noKeys}
+use Rattle.attributes.specs.Next.{Keys, Reading, bareBy, bareTo, valuedBy, valuedTo, readAt, noKeys}
 use Rattle.attributes.specs.Run.{isEnd, consUnless, runFrom, answersFrom}
 use Rattle.attributes.proofs.Whole.{StartIn, recover-in}
 use Rattle.attributes.proofs.Ways.{value-ways, step-ways}
 use Rattle.attributes.proofs.Run.{opened-answers}
-use Rattle.parts.specs.Parts.{spanPart, keyPart, valuePart}
+use Rattle.parts.specs.Parts.{keyPart, valuePart}
 use Rattle.parts.proofs.Parts.{span-inside}
 use Rattle.scope_table.specs.Table.{DEEPEST, validOf}
-use Rattle.scope_table.specs.Answer.{isDone, changed}
+use Rattle.scope_table.specs.Answer.{isDone}
 use Rattle.scope_table.specs.declared.NamespaceResolver.{NamespaceResolver}
 use Rattle.scope_table.specs.declared.Changed.{Changed}
-use Rattle.scope_table.specs.declared.NamespaceResult.{NamespaceResult}
 use Rattle.scope_change.specs.Change.{whole}
 use Rattle.scope_change.specs.declared.Room.{Room}
 use Rattle.scope_declare.specs.Declare.{namedOf, judgeOf, settleOf, declareOf}

@@ -1,17 +1,14 @@
 -- One turn of `push` over the tag's answers: the declarations from a place are one and those from the place that its answer
 -- leaves; and what a declaration leaves of lent memory is as long as before, and holds what is in use.
-use Prim.Native.Nat.{ℕ, _+_, _≤_, _<_}
+use Prim.Native.Nat.{ℕ, _<_}
 use mathlib.Core.Path.{_≡_, refl, sym, ap, subst, _∙_}
-use mathlib.Core.Bool.{Bool, true, false, false≢true}
-use mathlib.Core.List.{List, [], _∷_, _++_}
+use mathlib.Core.Bool.{true, false}
+use mathlib.Core.List.{List, [], _∷_}
 use mathlib.Core.Logic.{⊎-elim, _⊎_}
-use native.Mathlib.Omega.{arith}
 use types.Run.{OneOf}
 use denote.Enum.Declared.{tagOf}
 use lib.ListN.{length}
 use borrow.Author.Tests.{eqb-false}
-use Rattle.scan.specs.First.{pick}
-use Rattle.scan.proofs.Lists.{over-length}
 use Rattle.attributes.specs.declared.Span.{Span}
 use Rattle.attributes.specs.declared.Place.{Place}
 use Rattle.attributes.specs.declared.Place.the-variants.{Next}
@@ -25,13 +22,9 @@ use Rattle.attributes.proofs.Answer as E
 use Rattle.attributes.proofs.Run.{todo}
 use Rattle.attributes.proofs.Unchecked.{unchecked-less, unchecked-stands, unchecked-turn, unchecked-opened}
 use Rattle.parts.specs.Parts.{keyPart, valuePart}
-use Rattle.scope_table.specs.Records.{rowAt}
-use Rattle.scope_table.specs.Table.{TEXT, RECORDS}
-use Rattle.scope_table.specs.Answer.{isDone, changed}
-use Rattle.scope_table.specs.Lent.{standsFor, fitsOf, Given, given, lentOf}
+use Rattle.scope_table.specs.Answer.{isDone}
+use Rattle.scope_table.specs.Lent.{given, lentOf}
 use Rattle.scope_table.specs.declared.Head.{Head}
-use Rattle.scope_table.specs.declared.NamespaceResolver.{NamespaceResolver}
-use Rattle.scope_table.specs.declared.Changed.{Changed}
 use Rattle.scope_table.specs.declared.NamespaceResult.{NamespaceResult}
 use Rattle.scope_table.specs.declared.NamespaceResult.the-variants.{Done}
 use Rattle.scope_change.specs.declared.Room.{Room}

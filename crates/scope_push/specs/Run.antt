@@ -5,8 +5,6 @@ use Rattle.scan.specs.First.{pick}
 use Rattle.scope_table.specs.Answer.{isDone}
 use Rattle.scope_table.specs.Lent.{Given, given, lentOf}
 use Rattle.scope_table.specs.declared.Head.{Head}
-use Rattle.scope_table.specs.declared.NamespaceResolver.{NamespaceResolver}
-use Rattle.scope_table.specs.declared.Changed.{Changed}
 use Rattle.scope_table.specs.declared.NamespaceResult.the-variants.{Done}
 use Rattle.scope_change.specs.declared.Room.{Room}
 use Rattle.scope_push.specs.Push.{Declaration, declareOne}

@@ -1,5 +1,5 @@
 -- `scope_declare::add_in` meets its contract: the form decides first, then the declaration, which is the whole of the argument.
-use mathlib.Core.Path.{_≡_, sym, _∙_}
+use mathlib.Core.Path.{sym, _∙_}
 use native.Mathlib.Omega.{arith}
 use borrow.Author.Needs.{needs}
 use Rattle.scope_table.proofs.Good.{ready}

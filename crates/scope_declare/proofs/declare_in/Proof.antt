@@ -4,7 +4,7 @@ use mathlib.Core.Path.{_≡_, sym, _∙_}
 use borrow.Author.Needs.{needs}
 use lib.Seq.{length-take-le}
 use Rattle.scope_declare.specs.Declare.{judgeOf}
-use Rattle.scope_declare.specs.declared.Judged.the-variants.{Keep, Bind}
+use Rattle.scope_declare.specs.declared.Judged.the-variants.{Bind}
 use Rattle.scope_declare.proofs.Laws.{bind-fits, declare-keeps, declare-binds}
 use Rattle.scope_declare.proofs.declare_in.Statement.{statement}
 use Rattle.scope_declare.proofs.declare_in.Tie as tie

@@ -1,6 +1,6 @@
 -- `scope_push::push_in` meets its contract: the two refusals that come first, then the declarations at the level that is risen;
 -- what is not held is taken back.
-use mathlib.Core.Path.{_≡_, sym, _∙_}
+use mathlib.Core.Path.{sym, _∙_}
 use native.Mathlib.Omega.{arith}
 use borrow.Author.Needs.{needs}
 use borrow.Author.Tests.{le-leb, lt-leb}
