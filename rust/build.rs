@@ -19,7 +19,7 @@ fn main() {
         let remedy = match named {
             Some(_) => "MEZZULIDDA_LIB_DIR has to name the folder that holds it",
             None => {
-                "build it by comparison/library in the repository's root, or set MEZZULIDDA_LIB_DIR to its folder"
+                "build it by library/build in the repository's root, or set MEZZULIDDA_LIB_DIR to its folder"
             }
         };
         println!(

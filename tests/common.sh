@@ -64,7 +64,7 @@ need_source() {
 
 # The static library, as $library.
 need_library() {
-    library=$("$root/comparison/library" 2> "$work/err") && return
+    library=$("$root/library/build" 2> "$work/err") && return
     say "$(tail -n 1 "$work/err")"
     end
 }
