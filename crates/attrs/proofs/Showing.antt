@@ -14,12 +14,13 @@ use Rattle.attributes.specs.declared.IterState.{IterState}
 use Rattle.attributes.specs.Next.{lentState, noKeys, opened}
 use Rattle.attributes.specs.Run.{runOf}
 use Rattle.attributes.proofs.Good.{opened-sized}
-use Rattle.batch.specs.declared.Batch.{Batch}
 use Rattle.batch.specs.declared.Batch.the-variants.{Read, WrongTables}
-use Rattle.batch.specs.Batch.{roomOf, afterOf, batchOf, leftOf}
+use Rattle.batch.specs.declared.Why.{Why}
+use Rattle.batch.specs.Batch.{roomOf, batched, batchOf, leftOf}
 use Rattle.lines.specs.Lines.{linesOf}
-use Rattle.lines.specs.Page.{pageOf}
-use Rattle.lines.proofs.Pages.{page-lines}
+use Rattle.lines.specs.declared.Paged.{Paged}
+use Rattle.lines.specs.Page.{pageLeft, linesBy, pageOf}
+use Rattle.lines.proofs.Pages.{page-lines, page-batch, page-length, page-text}
 use Rattle.lines.proofs.Batches.{Stand, stand-first, stand-next, stand-bound, run-most, never-wrong, read-count, read-left}
 use Rattle.attrs.specs.Output.{outputOf, ComesNext, ToShow}
 use Rattle.attrs.proofs.Turn.{room, total-fits}
@@ -53,17 +54,20 @@ module _ (s : List ℕ) (place : Place) (starts ends : List ℕ) (recorded : ℕ
   abbrev page : List ℕ
   page = linesOf (runOf 256 s stood)
 
-  page-is : pageOf s stood numbers text ≡ page
+  page-is : linesBy (batchOf s stood numbers) text ≡ page
   page-is =
-      page-lines s stood numbers text (h .stand .sized) (omega (arith, h .room, h .lines))
+      page-lines s place false true starts ends recorded numbers text (h .stand .sized) (omega (arith, h .room, h .lines))
       ∙ ap (λ (m : ℕ). linesOf (runOf m s stood)) (h .room)
 
-  module _ {size : ℕ} {made : List ℕ} (es : size ≡ length (pageOf s stood numbers text)) (et : made ≡ over text 0 (pageOf s stood numbers text)) where
+  module _ {p : Paged} {starts' ends' numbers' made : List ℕ} (e : pageLeft p starts' ends' numbers' made ≡ pageOf s stood numbers text) where
+    abbrev size : ℕ
+    size = p .length
+
     size-is : size ≡ length page
-    size-is = es ∙ ap length page-is
+    size-is = page-length s stood numbers text e ∙ ap length page-is
 
     made-is : made ≡ over text 0 page
-    made-is = et ∙ ap (over text 0) page-is
+    made-is = page-text s stood numbers text e ∙ ap (over text 0) page-is
 
     pub made-length : length made ≡ length text
     made-length = rw made-is (over-length text 0 page (omega (arith, page-fits s stood text (h .lines))))
@@ -77,17 +81,20 @@ module _ (s : List ℕ) (place : Place) (starts ends : List ℕ) (recorded : ℕ
     pub turn-next : ComesNext s written (take size made)
     turn-next = rw front (page-next s shown stood (h .stand) written (h .done) 256 (h .short))
 
-    module _ {wrote : ℕ} (ew : wrote ≡ written + length (take size made)) {b : Batch} (eb : b ≡ batchOf s stood numbers) where
+    module _ {wrote : ℕ} (ew : wrote ≡ written + length (take size made)) where
       wrote-is : wrote ≡ written + length page
       wrote-is = ew ∙ ap (λ (l : List ℕ). written + length l) front
 
-      pub turn-never : b ≡ WrongTables → ⊥
+      eb : batched (p .left) starts' ends' numbers' ≡ batchOf s stood numbers
+      eb = page-batch s stood numbers text e
+
+      pub turn-never : p .left ≡ WrongTables → ⊥
       turn-never = never-wrong s place false true starts ends recorded numbers (h .stand .sized) eb
 
-      module _ {n : ℕ} {next : Place} {keys : ℕ} (e : b ≡ Read n next keys) where
+      module _ {n : ℕ} {next : Place} {keys : ℕ} {why : Why} (r : p .left ≡ Read n next keys why) where
         count-is : n ≡ length (runOf 256 s stood)
         count-is =
-            read-count s place false true starts ends recorded numbers (h .stand .sized) eb e
+            read-count s place false true starts ends recorded numbers (h .stand .sized) eb r
             ∙ ap (λ (m : ℕ). length (runOf m s stood)) (h .room)
 
         pub turn-last : n < 256 → wrote ≡ length (outputOf s)
@@ -106,9 +113,9 @@ module _ (s : List ℕ) (place : Place) (starts ends : List ℕ) (recorded : ℕ
           pub turn-less : length s + 1 - (shown + n) < length s + 1 - shown
           turn-less = omega (arith, full, stand-bound s fresh (shown + 256) _ stand-on 0)
 
-          pub turn-more : {starts' ends' : List ℕ} (numbers' : List ℕ) → starts' ≡ afterOf s stood numbers .starts → ends' ≡ afterOf s stood numbers .ends → length numbers' ≡ length numbers → Showing s numbers' made wrote (shown + n) (lentState next false true starts' ends' keys)
-          turn-more numbers' xs xe size' =
-              let left = read-left s place false true starts ends recorded numbers (h .stand .sized) eb e xs xe ∙ ap (λ (m : ℕ). leftOf m s stood) (h .room) in
+          pub turn-more : length numbers' ≡ length numbers → Showing s numbers' made wrote (shown + n) (lentState next false true starts' ends' keys)
+          turn-more size' =
+              let left = read-left s place false true starts ends recorded numbers (h .stand .sized) eb r ∙ ap (λ (m : ℕ). leftOf m s stood) (h .room) in
               record {
                 stand = rw (left, full) stand-on;
                 done = rw (full, wrote-is) (shown-more s shown stood (h .stand) written (h .done) 256);

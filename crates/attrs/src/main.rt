@@ -38,7 +38,7 @@ fn count_on<'a>(
     let mut total = 0;
     loop {
         let left = batch::read_batch(tag, starts, ends, false, true, recorded, place, numbers);
-        let Batch::Read(n, next, count) = left else {
+        let Batch::Read(n, next, count, _) = left else {
             return total;
         };
         total += n;
@@ -110,7 +110,7 @@ fn show_on<'a>(
         let length = page.length;
         write_next(tag, &text[..length], written);
         let left = page.left;
-        let Batch::Read(n, behind, keys) = left else {
+        let Batch::Read(n, behind, keys, _) = left else {
             return;
         };
         if n < ANSWERS {

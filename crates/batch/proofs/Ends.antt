@@ -1,154 +1,111 @@
--- The ways in which a batch comes back, each as what its contract says: tables that do not fit, no room, refusal 7, and
--- the batch of a good state.
+-- The ways in which a batch comes back, each as what its contract says: tables that are too long, no room, refusal 7, and the
+-- batch of a good state.
 use Prim.Native.Nat.{ℕ, zero, suc, _+_, _-_, _/_, _≤_, _<_}
-use mathlib.Core.Path.{_≡_, refl, sym, ap, subst, _∙_}
+use mathlib.Core.Path.{_≡_, refl, sym, ap, _∙_}
 use mathlib.Core.Bool.{Bool, true, false, _&&_}
 use mathlib.Core.List.{List, [], _∷_, _++_, append-nil}
 use native.Mathlib.Omega.{arith}
-use lib.ListN.{length, replicate}
-use lib.Dec.{eqb}
-use borrow.Author.Tests.{eq-eqb, ne-eqb}
+use lib.ListN.{length, replicate, length-replicate}
+use lib.Dec.{leb, ltb}
+use borrow.Author.Tests.{le-leb, lt-leb, lt-ltb, le-ltb, ltb-true, ltb-false}
 use Rattle.scan.specs.First.{pick}
 use Rattle.scan.specs.Lists.{over}
 use Rattle.scan.proofs.Lists.{over-none}
 use Rattle.keys.specs.Keys.{capacity}
+use Rattle.keys.proofs.Laws.{in-table, keys-none}
 use Rattle.attributes.specs.declared.Place.{Place}
 use Rattle.attributes.specs.declared.Place.the-variants.{Done}
 use Rattle.attributes.specs.declared.Answer.{Answer}
 use Rattle.attributes.specs.declared.Answer.the-variants.{End, BadState}
 use Rattle.attributes.specs.declared.IterState.{IterState}
-use Rattle.attributes.specs.declared.Step.{Step}
-use Rattle.attributes.specs.Read.{recoverOf}
-use Rattle.attributes.specs.Next.{stateGood, noKeys, badReading, leaves, keysOf, stepOf, stepFrom, nextOf, lentState}
-use Rattle.attributes.specs.Run.{isEnd, consUnless, runOf}
-use Rattle.attributes.proofs.Whole.{next-bad, next-steps}
-use Rattle.attributes.proofs.Good.{Sized, next-stays-good, next-sized}
-use Rattle.batch.specs.declared.Batch.{Batch}
+use Rattle.attributes.specs.Read.{found, recoverOf}
+use Rattle.attributes.specs.Next.{reading, lent, placeGood, stateGood, stepOf, stepFrom, keysOf, lentState}
+use Rattle.attributes.specs.Lent.{wholeNext, needsMore, steppedOf}
+use Rattle.attributes.specs.Run.{isEnd}
+use Rattle.attributes.proofs.Lent.{bad-answer, bad-needs, bad-leaves, good-answer, good-needs, good-leaves}
+use Rattle.batch.specs.declared.Why.{Why}
+use Rattle.batch.specs.declared.Why.the-variants.{OutFull, AtEnd}
 use Rattle.batch.specs.declared.Batch.the-variants.{Read, WrongTables}
-use Rattle.batch.specs.Batch.{fiveOf, fivesOf, leftOf, tablesFit, roomOf, readOf, afterOf, writtenOf, leftBatch, batchOf}
-
--- what the contract of `read_batch` says of an answer and of the lent memory after it
-abbrev pub Said : List ℕ → IterState → List ℕ → Batch → (starts ends written : List ℕ) → Type 0
-Said s st out b starts ends written =
-    (b ≡ batchOf s st out)
-    × (starts ≡ afterOf s st out .starts)
-    × (ends ≡ afterOf s st out .ends)
-    × (written ≡ writtenOf s st out)
+use Rattle.batch.specs.Batch.{fiveOf, fivesOf, Ran, ran, ahead, ranOf, tablesLent, roomOf, Batched, batched, shownOf, readOf, batchOf}
 
 module _ (s : List ℕ) (st : IterState) (out : List ℕ) where
-  -- Tables of another size.
+  -- Tables of more places than there can be keys.
 
-  pub unfit-starts : (length (st .starts) ≡ capacity → ⊥) → tablesFit st ≡ false
-  unfolding tablesFit
-  unfit-starts n = rw (ne-eqb (length (st .starts)) capacity n)
+  pub long-starts : capacity < length (st .starts) → batched WrongTables (st .starts) (st .ends) out ≡ batchOf s st out
+  unfolding batchOf tablesLent
+  long-starts h = rw (lt-leb (length (st .starts)) capacity h)
 
-  pub unfit-ends : length (st .starts) ≡ capacity → (length (st .ends) ≡ capacity → ⊥) → tablesFit st ≡ false
-  unfolding tablesFit
-  unfit-ends e n = rw (eq-eqb (length (st .starts)) capacity e, ne-eqb (length (st .ends)) capacity n)
+  module _ (ls : length (st .starts) ≤ capacity) where
+    pub long-ends : capacity < length (st .ends) → batched WrongTables (st .starts) (st .ends) out ≡ batchOf s st out
+    unfolding batchOf tablesLent
+    long-ends h = rw (le-leb (length (st .starts)) capacity ls, lt-leb (length (st .ends)) capacity h)
 
-  pub fit : Sized st → tablesFit st ≡ true
-  unfolding tablesFit
-  fit z = rw (eq-eqb (length (st .starts)) capacity (z .starts), eq-eqb (length (st .ends)) capacity (z .ends))
+    module _ (le : length (st .ends) ≤ capacity) where
+      -- Others are read.
 
-  pub said-wrong : tablesFit st ≡ false → Said s st out WrongTables (st .starts) (st .ends) out
-  unfolding batchOf afterOf writtenOf readOf fivesOf
-  said-wrong f = (rw f, rw f, rw f, rw f (sym (over-none out 0)))
+      pub lent-read : readOf s st out ≡ batchOf s st out
+      unfolding batchOf tablesLent
+      lent-read = rw (le-leb (length (st .starts)) capacity ls, le-leb (length (st .ends)) capacity le)
 
-  -- Tables that fit: the batch of the run.
+      -- An output that holds no answer: nothing is written and nothing moves.
 
-  pub said-fit : Sized st → (b : Batch) (starts ends written : List ℕ) → b ≡ leftBatch s st out → starts ≡ leftOf (roomOf out) s st .starts → ends ≡ leftOf (roomOf out) s st .ends → written ≡ over out 0 (fivesOf (runOf (roomOf out) s st)) → Said s st out b starts ends written
-  unfolding batchOf afterOf writtenOf readOf
-  said-fit z b starts ends written eb es ee ew =
-      let f = fit z in
-      (eb ∙ rw f, es ∙ rw f, ee ∙ rw f, ew ∙ rw f)
+      room-zero : length out < 5 → roomOf out ≡ 0
+      unfolding roomOf
+      room-zero h = omega arith
 
-  -- An output that holds no answer: nothing is written and nothing moves.
-
-  module _ (none : roomOf out ≡ 0) where
-    none-batch : Read 0 (st .place) (st .count) ≡ leftBatch s st out
-    unfolding leftBatch runOf leftOf
-    none-batch = rw none
-
-    none-left : leftOf (roomOf out) s st ≡ st
-    unfolding leftOf
-    none-left = rw none
-
-    none-text : out ≡ over out 0 (fivesOf (runOf (roomOf out) s st))
-    unfolding runOf fivesOf
-    none-text = rw none (sym (over-none out 0))
-
-    none-said : Sized st → Said s st out (Read 0 (st .place) (st .count)) (st .starts) (st .ends) out
-    none-said z = said-fit z _ _ _ _ none-batch (sym (ap (λ (x : IterState). x .starts) none-left)) (sym (ap (λ (x : IterState). x .ends) none-left)) none-text
-
-  room-zero : length out < 5 → roomOf out ≡ 0
-  unfolding roomOf
-  room-zero h = omega arith
-
-  pub said-none : Sized st → length out < 5 → Said s st out (Read 0 (st .place) (st .count)) (st .starts) (st .ends) out
-  said-none z h = none-said (room-zero h) z
+      pub read-none : length out < 5 → batched (Read 0 (st .place) (st .count) OutFull) (st .starts) (st .ends) out ≡ batchOf s st out
+      unfolding readOf shownOf ranOf fivesOf
+      read-none h = sym (sym lent-read ∙ rw (room-zero h, over-none out 0))
 
 -- From done nothing moves.
 
-module _ (s : List ℕ) (html checks : Bool) (starts ends : List ℕ) (count : ℕ) (good : stateGood s (lentState Done html checks starts ends count) ≡ true) where
-  done-next : record { answer = End; state = lentState Done html checks starts ends count } ≡ nextOf s (lentState Done html checks starts ends count)
-  unfolding leaves keysOf stepOf stepFrom recoverOf
-  done-next = next-steps s (lentState Done html checks starts ends count) good _ refl
+module _ (s : List ℕ) (html checks : Bool) (starts ends : List ℕ) (ls : length starts ≤ capacity) (le : length ends ≤ capacity) where
+  abbrev ended : IterState
+  ended = lentState Done html checks starts ends 0
 
-  done-run : (n : ℕ) → runOf n s (lentState Done html checks starts ends count) ≡ []
-  unfolding runOf isEnd consUnless
-  done-run zero = refl
-  done-run (suc n) = rw (← done-next)
+  ended-good : stateGood s ended ≡ true
+  unfolding stateGood placeGood
+  ended-good = rw (in-table (length s) starts ends 0 (keys-none starts ends (length s)))
 
-  done-left : (n : ℕ) → leftOf n s (lentState Done html checks starts ends count) ≡ lentState Done html checks starts ends count
-  unfolding leftOf isEnd
-  done-left zero = refl
-  done-left (suc n) = rw (← done-next)
+  ended-step : reading (found End Done) (lent starts ends 0) ≡ stepOf s html checks (keysOf ended) Done
+  unfolding stepOf stepFrom recoverOf keysOf
+  ended-step = refl
 
--- Refusal 7: one answer, and no recorded keys.
+  ended-ran : (n : ℕ) → ranOf (suc n) s ended ≡ ran [] ended AtEnd
+  unfolding ranOf isEnd
+  ended-ran n =
+      let x = reading (found End Done) (lent starts ends 0) in
+      rw (good-needs s ended ls le ended-good x ended-step, le-leb 0 (length starts) (omega arith), le-leb 0 (length ends) (omega arith), good-answer s ended ls le ended-good x ended-step, good-leaves s ended ls le ended-good x ended-step)
 
-module _ (s : List ℕ) (st : IterState) (out : List ℕ) (z : Sized st) (bad : stateGood s st ≡ false) (some : 5 ≤ length out) where
-  abbrev zeros : List ℕ
-  zeros = replicate capacity 0
+-- Refusal 7: one answer, and no recorded keys; then the end.
 
+module _ (s : List ℕ) (st : IterState) (out : List ℕ) (ls : length (st .starts) ≤ capacity) (le : length (st .ends) ≤ capacity) (bad : stateGood s st ≡ false) (some : 5 ≤ length out) where
   abbrev after : IterState
-  after = lentState Done (st .html) (st .«check_duplicates») zeros zeros 0
+  after = lentState Done (st .html) (st .«check_duplicates») (replicate (length (st .starts)) 0) (replicate (length (st .ends)) 0) 0
 
-  is-next : record { answer = BadState; state = after } ≡ nextOf s st
-  unfolding leaves badReading noKeys
-  is-next = next-bad s st bad
+  bad-ran : (n : ℕ) → ranOf (suc n) s st ≡ ahead BadState (ranOf n s after)
+  unfolding ranOf isEnd
+  bad-ran n = rw (bad-needs s st ls le bad, bad-answer s st ls le bad, bad-leaves s st ls le bad)
 
-  after-good : stateGood s after ≡ true
-  after-good = subst (λ (x : Step). stateGood s (x .state) ≡ true) (sym is-next) (next-stays-good s st z)
+  short : length (replicate {A = ℕ} (length (st .starts)) 0) ≤ capacity
+  short = omega (arith, length-replicate {A = ℕ} (length (st .starts)) 0)
 
-  room : roomOf out ≡ suc (roomOf out - 1)
+  short-ends : length (replicate {A = ℕ} (length (st .ends)) 0) ≤ capacity
+  short-ends = omega (arith, length-replicate {A = ℕ} (length (st .ends)) 0)
+
+  rest : (n : ℕ) → roomOf out ≡ suc n → ranOf n s after ≡ ran [] after (pick (ltb (length out) 10) OutFull AtEnd)
+  unfolding roomOf ranOf
+  rest zero h = rw (lt-ltb (length out) 10 (omega arith))
+  rest (suc n) h = ended-ran s (st .html) (st .«check_duplicates») (replicate (length (st .starts)) 0) (replicate (length (st .ends)) 0) short short-ends n ∙ rw (le-ltb (length out) 10 (omega arith))
+
+  room-some : roomOf out ≡ suc (roomOf out - 1)
   unfolding roomOf
-  room = omega arith
+  room-some = omega arith
 
-  bad-run : runOf (roomOf out) s st ≡ BadState ∷ []
-  unfolding runOf isEnd consUnless
-  bad-run = rw (room, ← is-next, done-run s (st .html) (st .«check_duplicates») zeros zeros 0 after-good (roomOf out - 1))
+  bad-is : (n : ℕ) → roomOf out ≡ suc n → readOf s st out ≡ batched (Read 1 Done 0 (pick (ltb (length out) 10) OutFull AtEnd)) (replicate (length (st .starts)) 0) (replicate (length (st .ends)) 0) (over out 0 (fiveOf BadState))
+  unfolding readOf shownOf fivesOf
+  bad-is n e = rw (e, bad-ran n, rest n e, append-nil (fiveOf BadState))
 
-  bad-left : leftOf (roomOf out) s st ≡ after
-  unfolding leftOf isEnd
-  bad-left = rw (room, ← is-next, done-left s (st .html) (st .«check_duplicates») zeros zeros 0 after-good (roomOf out - 1))
-
-  bad-batch : Read 1 Done 0 ≡ leftBatch s st out
-  unfolding leftBatch
-  bad-batch = rw (bad-run, bad-left)
-
-  bad-text : over out 0 (fiveOf BadState) ≡ over out 0 (fivesOf (runOf (roomOf out) s st))
-  unfolding fivesOf
-  bad-text = rw (bad-run, append-nil (fiveOf BadState))
-
-  bad-starts : zeros ≡ leftOf (roomOf out) s st .starts
-  bad-starts = rw bad-left
-
-  bad-ends : zeros ≡ leftOf (roomOf out) s st .ends
-  bad-ends = rw bad-left
-
-  pub said-bad : (starts ends written : List ℕ) → starts ≡ replicate (length (st .starts)) 0 → ends ≡ replicate (length (st .ends)) 0 → written ≡ over out 0 (fiveOf BadState) → Said s st out (Read 1 Done 0) starts ends written
-  said-bad starts ends written es ee ew =
-      said-fit s st out z (Read 1 Done 0) starts ends written bad-batch
-      (es ∙ ap (λ (n : ℕ). replicate n 0) (z .starts) ∙ bad-starts)
-      (ee ∙ ap (λ (n : ℕ). replicate n 0) (z .ends) ∙ bad-ends)
-      (ew ∙ bad-text)
+  pub read-bad : (starts ends out' : List ℕ) (why : Why) → starts ≡ replicate (length (st .starts)) 0 → ends ≡ replicate (length (st .ends)) 0 → out' ≡ over out 0 (fiveOf BadState) → why ≡ pick (ltb (length out') 10) OutFull AtEnd → length out' ≡ length out → batched (Read 1 Done 0 why) starts ends out' ≡ batchOf s st out
+  read-bad starts ends out' why es ee eo ew size =
+      rw (es, ee, ew, size, eo) (sym (sym (lent-read s st out ls le) ∙ bad-is (roomOf out - 1) room-some))

@@ -1,3 +1,4 @@
 pub mod Over
 pub mod Turns
 pub mod Ends
+pub mod Full

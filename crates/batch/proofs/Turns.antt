@@ -1,10 +1,9 @@
 -- What one turn of the batch's loop does: the whole batch is what was written so far, and the batch of what is left.
 use Prim.Native.Nat.{ℕ, zero, suc, _+_, _-_, _*_, _/_, _≤_, _<_}
-use mathlib.Core.Path.{_≡_, refl, sym, ap, subst, _∙_}
-use mathlib.Core.Bool.{true, false}
+use mathlib.Core.Path.{_≡_, refl, sym, ap, _∙_}
+use mathlib.Core.Bool.{Bool, true, false}
 use mathlib.Core.List.{List, [], _∷_, _++_}
 use native.Mathlib.Omega.{arith}
-use native.Mathlib.Numerals.{add-one}
 use lib.ListN.{length, getD}
 use lib.Dec.{eqb}
 use borrow.Author.Tests.{eq-eqb, ne-eqb}
@@ -14,16 +13,20 @@ use Rattle.scan.proofs.Lists.{over-length, over-none, over-more}
 use Rattle.attributes.specs.declared.Answer.{Answer}
 use Rattle.attributes.specs.declared.Answer.the-variants.{End, DoubleQ, SingleQ, Unquoted, Empty, ExpectedEq, ExpectedValue, UnquotedValue, ExpectedQuote, Duplicated, KeyTableFull, BadState}
 use Rattle.attributes.specs.declared.IterState.{IterState}
-use Rattle.attributes.specs.declared.Step.{Step}
-use Rattle.attributes.specs.Next.{Reading, Ready, keysOf, stateGood, nextOf}
 use Rattle.attributes.specs.Numbers.{numbersOf}
-use Rattle.attributes.specs.Run.{isEnd, consUnless, runOf}
-use Rattle.attributes.proofs.Whole.{next-ready}
-use Rattle.attributes.proofs.Good.{Sized, next-stays-good, next-sized}
+use Rattle.attributes.specs.Run.{isEnd}
+use Rattle.attributes.specs.declared.Place.{Place}
+use Rattle.attributes.specs.declared.Outcome.{Outcome}
+use Rattle.attributes.specs.declared.Stepped.{Stepped}
+use Rattle.attributes.specs.declared.Stepped.the-variants as Stop
+use Rattle.attributes.specs.Next.{lent, stepOf, lentState}
+use Rattle.attributes.specs.Lent.{wholeNext, needsMore, steppedOf, taken, takenOn}
+use Rattle.attributes.proofs.Lent.{made-held, made-answer, made-leaves, made-good, made-starts, made-ends, more-needs, more-starts, more-ends}
 use Rattle.batch.specs.declared.Five.{Five}
-use Rattle.batch.specs.declared.Batch.{Batch}
 use Rattle.batch.specs.declared.Batch.the-variants.{Read}
-use Rattle.batch.specs.Batch.{fiveOf, listed, fivesOf, leftOf, Ripe, roomOf, leftBatch}
+use Rattle.batch.specs.declared.Why.{Why}
+use Rattle.batch.specs.declared.Why.the-variants.{OutFull, AtEnd, LendMore}
+use Rattle.batch.specs.Batch.{fiveOf, listed, fivesOf, Ran, ran, ahead, ranOf, roomOf, Batched, batched, shownOf, readOf, Ripe}
 
 -- every answer is five numbers
 pub five-length : (a : Answer) → length (fiveOf a) ≡ 5
@@ -64,37 +67,44 @@ code-end a x e z = end-code a ∙ ap (λ (l : List ℕ). eqb (getD l 0 0) 0) (sy
 pub code-other : (a : Answer) (x : Five) → listed x ≡ fiveOf a → (x .code ≡ 0 → ⊥) → isEnd a ≡ false
 code-other a x e z = end-code a ∙ ap (λ (l : List ℕ). eqb (getD l 0 0) 0) (sym e) ∙ ne-eqb (x .code) 0 z
 
-ripe-sized : (s : List ℕ) (st : IterState) → Ripe s st → Sized st
-ripe-sized s st r = record { starts = r .starts; ends = r .ends }
+-- n answers stand at the front already, and these follow
+abbrev pub shownFrom : ℕ → List ℕ → Ran → Batched
+shownFrom n out x =
+    batched (Read (n + length (x .answers)) (x .state .place) (x .state .count) (x .why)) (x .state .starts) (x .state .ends)
+    (over out (5 * n) (fivesOf (x .answers)))
 
-pub ripe-ready : (s : List ℕ) (st : IterState) → Ripe s st → Ready s (st .«check_duplicates») (keysOf st) (st .place)
-ripe-ready s st r = next-ready s st (r .good) (omega (arith, r .starts)) (omega (arith, r .ends))
+shown-none : (n : ℕ) (out : List ℕ) (st : IterState) (why : Why) → shownFrom n out (ran [] st why) ≡ batched (Read n (st .place) (st .count) why) (st .starts) (st .ends) out
+unfolding fivesOf
+shown-none n out st why =
+    let e : n + 0 ≡ n = omega arith in
+    rw (e, over-none out (5 * n))
 
-pub ripe-next : (s : List ℕ) (st : IterState) → Ripe s st → Ripe s (nextOf s st .state)
-ripe-next s st r =
-    let z = next-sized s st (ripe-sized s st r) in
-    record { good = next-stays-good s st (ripe-sized s st r); starts = z .starts; ends = z .ends }
-
-pub ripe-after : (s : List ℕ) (st : IterState) (a : Answer) (after : IterState) → record { answer = a; state = after } ≡ nextOf s st → Ripe s st → Ripe s after
-ripe-after s st a after step r = subst (λ (x : Step). Ripe s (x .state)) (sym step) (ripe-next s st r)
+shown-next : (n : ℕ) (out : List ℕ) (a : Answer) (x : Ran) → 5 * n + 5 ≤ length out → shownFrom n out (ahead a x) ≡ shownFrom (n + 1) (over out (5 * n) (fiveOf a)) x
+unfolding fivesOf
+shown-next n out a x room =
+    let five = five-length a in
+    let at : 5 * n + length (fiveOf a) ≡ 5 * (n + 1) = omega arith in
+    let many : n + suc (length (x .answers)) ≡ n + 1 + length (x .answers) = omega arith in
+    let text = over-more out (5 * n) (fiveOf a) (omega arith) (fivesOf (x .answers)) ∙ ap (λ (k : ℕ). over (over out (5 * n) (fiveOf a)) k (fivesOf (x .answers))) at in
+    rw (many, text)
 
 -- The loop's invariant. `whole` is the output at the start, `n` the answers written, `st` the state, `out` the output now.
 pub record Turn (s : List ℕ) (first : IterState) (whole : List ℕ) (n : ℕ) (st : IterState) (out : List ℕ) : Type 0 where
   pub ripe : Ripe s st
   pub size : length out ≡ length whole
   pub fits : n ≤ roomOf whole
-  pub left : leftOf (roomOf whole) s first ≡ leftOf (roomOf whole - n) s st
-  pub many : length (runOf (roomOf whole) s first) ≡ n + length (runOf (roomOf whole - n) s st)
-  pub text : over whole 0 (fivesOf (runOf (roomOf whole) s first)) ≡ over out (5 * n) (fivesOf (runOf (roomOf whole - n) s st))
+  pub same : readOf s first whole ≡ shownFrom n out (ranOf (roomOf whole - n) s st)
 
 pub turn-first : (s : List ℕ) (st : IterState) (out : List ℕ) → Ripe s st → Turn s st out 0 st out
+unfolding readOf shownOf
 turn-first s st out r =
     let e : roomOf out - 0 ≡ roomOf out = omega arith in
     let z : 5 * 0 ≡ 0 = omega arith in
-    record { ripe = r; size = refl; fits = omega arith; left = rw e; many = rw e (omega arith); text = rw (e, z) }
+    let m : 0 + length (ranOf (roomOf out) s st .answers) ≡ length (ranOf (roomOf out) s st .answers) = omega arith in
+    record { ripe = r; size = refl; fits = omega arith; same = rw (e, z, m) }
 
 -- room for an answer, and none
-pub room-more : (out : List ℕ) (n : ℕ) → 5 * n + 5 ≤ length out → n < roomOf out
+room-more : (out : List ℕ) (n : ℕ) → 5 * n + 5 ≤ length out → n < roomOf out
 unfolding roomOf
 room-more out n h = omega arith
 
@@ -106,84 +116,97 @@ room-none : (out : List ℕ) (n : ℕ) → length out < 5 * n + 5 → n ≤ room
 unfolding roomOf
 room-none out n h l = omega arith
 
--- one step of a run and of what it leaves
-module _ (s : List ℕ) (st : IterState) (m : ℕ) (a : Answer) (after : IterState) (step : record { answer = a; state = after } ≡ nextOf s st) where
-  step-run : runOf (suc m) s st ≡ consUnless (isEnd a) a (runOf m s after)
-  unfolding runOf
-  step-run = rw (← step)
+-- a step
+module _ (s : List ℕ) (st : IterState) (m : ℕ) where
+  ran-more : needsMore s st ≡ true → ranOf (suc m) s st ≡ ran [] st LendMore
+  unfolding ranOf
+  ran-more h = rw h
 
-  step-left : leftOf (suc m) s st ≡ pick (isEnd a) after (leftOf m s after)
-  unfolding leftOf
-  step-left = rw (← step)
+  module _ (held : needsMore s st ≡ false) (a : Answer) (after : IterState) (answer : wholeNext s st .answer ≡ a) (leaves : steppedOf s st ≡ after) where
+    ran-end : isEnd a ≡ true → ranOf (suc m) s st ≡ ran [] after AtEnd
+    unfolding ranOf
+    ran-end h = rw (held, answer, h, leaves)
+
+    ran-next : isEnd a ≡ false → ranOf (suc m) s st ≡ ahead a (ranOf m s after)
+    unfolding ranOf
+    ran-next h = rw (held, answer, h, leaves)
 
 module _ (s : List ℕ) (first : IterState) (whole : List ℕ) (n : ℕ) (st : IterState) (out : List ℕ) (t : Turn s first whole n st out) where
-  -- there is room for one answer more, and this is it
-  module _ (room : 5 * n + 5 ≤ length out) (a : Answer) (after : IterState) (step : record { answer = a; state = after } ≡ nextOf s st) where
+  -- there is room for one answer more
+  module _ (room : 5 * n + 5 ≤ length out) where
     more : roomOf whole - n ≡ suc (roomOf whole - (n + 1))
     more = omega (arith, room-more whole n (omega (arith, t .size)))
 
-    runs : runOf (roomOf whole - n) s st ≡ consUnless (isEnd a) a (runOf (roomOf whole - (n + 1)) s after)
-    runs = rw more (step-run s st (roomOf whole - (n + 1)) a after step)
+    went : (x : Ran) → ranOf (suc (roomOf whole - (n + 1))) s st ≡ x → readOf s first whole ≡ shownFrom n out x
+    went x e = t .same ∙ rw (more, e)
 
-    lefts : leftOf (roomOf whole - n) s st ≡ pick (isEnd a) after (leftOf (roomOf whole - (n + 1)) s after)
-    lefts = rw more (step-left s st (roomOf whole - (n + 1)) a after step)
+    -- a key has no place: nothing is written, and this state is left
+    pub turn-short : needsMore s st ≡ true → batched (Read n (st .place) (st .count) LendMore) (st .starts) (st .ends) out ≡ readOf s first whole
+    turn-short h = sym (went (ran [] st LendMore) (ran-more s st (roomOf whole - (n + 1)) h) ∙ shown-none n out st LendMore)
 
-    -- the end: nothing is written, and this state is left
-    module _ (end : isEnd a ≡ true) where
-      pub ends-left : leftOf (roomOf whole) s first ≡ after
-      ends-left = t .left ∙ lefts ∙ rw end
+    module _ (held : needsMore s st ≡ false) (a : Answer) (after : IterState) (answer : wholeNext s st .answer ≡ a) (leaves : steppedOf s st ≡ after) where
+      -- the end: nothing is written, and the next state is left
+      pub turn-ends : isEnd a ≡ true → batched (Read n (after .place) (after .count) AtEnd) (after .starts) (after .ends) out ≡ readOf s first whole
+      turn-ends h = sym (went (ran [] after AtEnd) (ran-end s st (roomOf whole - (n + 1)) held a after answer leaves h) ∙ shown-none n out after AtEnd)
 
-      none : runOf (roomOf whole - n) s st ≡ []
-      unfolding consUnless
-      none = runs ∙ rw end
-
-      pub ends-many : length (runOf (roomOf whole) s first) ≡ n
-      ends-many = t .many ∙ rw none (omega arith)
-
-      pub ends-text : over whole 0 (fivesOf (runOf (roomOf whole) s first)) ≡ out
-      unfolding fivesOf
-      ends-text = t .text ∙ rw none (over-none out (5 * n))
-
-    -- an answer: it is written, and the loop goes on
-    module _ (other : isEnd a ≡ false) where
-      cons : runOf (roomOf whole - n) s st ≡ a ∷ runOf (roomOf whole - (n + 1)) s after
-      unfolding consUnless
-      cons = runs ∙ rw other
-
-      pub turn-next : Turn s first whole (n + 1) after (over out (5 * n) (fiveOf a))
-      unfolding fivesOf
-      turn-next =
+      -- an answer: it is written, and the loop goes on
+      pub turn-next : isEnd a ≡ false → Ripe s after → Turn s first whole (n + 1) after (over out (5 * n) (fiveOf a))
+      turn-next h ripe =
           let five = five-length a in
-          let room' : 5 * n + length (fiveOf a) ≤ length out = omega arith in
-          let at : 5 * n + length (fiveOf a) ≡ 5 * (n + 1) = omega arith in
-          let rest = fivesOf (runOf (roomOf whole - (n + 1)) s after) in
           record {
-            ripe = ripe-after s st a after step (t .ripe);
-            size = over-length out (5 * n) (fiveOf a) room' ∙ t .size;
+            ripe = ripe;
+            size = over-length out (5 * n) (fiveOf a) (omega arith) ∙ t .size;
             fits = omega (arith, room-more whole n (omega (arith, t .size)));
-            left = t .left ∙ lefts ∙ rw other;
-            many = t .many ∙ rw cons (omega arith);
-            text = t .text ∙ rw cons (over-more out (5 * n) (fiveOf a) room' rest ∙ ap (λ (k : ℕ). over (over out (5 * n) (fiveOf a)) k rest) at);
+            same = went (ahead a (ranOf (roomOf whole - (n + 1)) s after)) (ran-next s st (roomOf whole - (n + 1)) held a after answer leaves h) ∙ shown-next n out a (ranOf (roomOf whole - (n + 1)) s after) room;
           }
 
   -- the output is full
-  module _ (full : length out < 5 * n + 5) where
-    done : roomOf whole - n ≡ 0
-    done = room-none whole n (omega (arith, t .size)) (t .fits)
+  pub turn-full : length out < 5 * n + 5 → batched (Read n (st .place) (st .count) OutFull) (st .starts) (st .ends) out ≡ readOf s first whole
+  unfolding ranOf
+  turn-full h =
+      let z = room-none whole n (omega (arith, t .size)) (t .fits) in
+      sym (t .same ∙ rw z (shown-none n out st OutFull))
 
-    pub full-left : leftOf (roomOf whole) s first ≡ st
-    unfolding leftOf
-    full-left = t .left ∙ rw done
+-- The same of what `step_in` has done.
+module _ (s : List ℕ) (first : IterState) (whole : List ℕ) (n : ℕ) (place : Place) (html checks : Bool) (starts ends : List ℕ) (count : ℕ) (out : List ℕ)
+    (t : Turn s first whole n (lentState place html checks starts ends count) out) (room : 5 * n + 5 ≤ length out)
+    (r : Stepped) (starts' ends' : List ℕ) (e : taken r starts' ends' count ≡ takenOn (lent starts ends count) (stepOf s html checks (lent starts ends count) place)) where
+  abbrev st : IterState
+  st = lentState place html checks starts ends count
 
-    pub full-many : length (runOf (roomOf whole) s first) ≡ n
-    unfolding runOf
-    full-many = t .many ∙ rw done (omega arith)
+  pub goes-short : r ≡ Stop.LendMore → batched (Read n place count LendMore) starts' ends' out ≡ readOf s first whole
+  goes-short m =
+      let p = t .ripe in
+      rw (more-starts s place html checks starts ends count (p .starts) (p .ends) (p .good) r starts' ends' e m, more-ends s place html checks starts ends count (p .starts) (p .ends) (p .good) r starts' ends' e m)
+      (turn-short s first whole n st out t room (more-needs s place html checks starts ends count (p .starts) (p .ends) (p .good) r starts' ends' e m))
 
-    pub full-text : over whole 0 (fivesOf (runOf (roomOf whole) s first)) ≡ out
-    unfolding runOf fivesOf
-    full-text = t .text ∙ rw done (over-none out (5 * n))
+  module _ (o : Outcome) (m : r ≡ Stop.Made o) where
+    abbrev after : IterState
+    after = lentState (o .place) html checks starts' ends' (o .count)
 
--- what the code answers, from the state and the number of answers that are left
-pub batch-left : (s : List ℕ) (first : IterState) (whole : List ℕ) (n : ℕ) (st : IterState) → length (runOf (roomOf whole) s first) ≡ n → leftOf (roomOf whole) s first ≡ st → Read n (st .place) (st .count) ≡ leftBatch s first whole
-unfolding leftBatch
-batch-left s first whole n st many left = rw (many, left)
+    held : needsMore s st ≡ false
+    held = made-held s place html checks starts ends count (t .ripe .starts) (t .ripe .ends) (t .ripe .good) r starts' ends' e o m
+
+    answer : wholeNext s st .answer ≡ o .answer
+    answer = made-answer s place html checks starts ends count (t .ripe .starts) (t .ripe .ends) (t .ripe .good) r starts' ends' e o m
+
+    leaves : steppedOf s st ≡ after
+    leaves = made-leaves s place html checks starts ends count (t .ripe .starts) (t .ripe .ends) (t .ripe .good) r starts' ends' e o m
+
+    pub after-starts : length starts' ≡ length starts
+    after-starts = made-starts s place html checks starts ends count (t .ripe .starts) (t .ripe .ends) (t .ripe .good) r starts' ends' e o m
+
+    pub after-ends : length ends' ≡ length ends
+    after-ends = made-ends s place html checks starts ends count (t .ripe .starts) (t .ripe .ends) (t .ripe .good) r starts' ends' e o m
+
+    pub goes-end : isEnd (o .answer) ≡ true → batched (Read n (o .place) (o .count) AtEnd) starts' ends' out ≡ readOf s first whole
+    goes-end h = turn-ends s first whole n st out t room held (o .answer) after answer leaves h
+
+    pub goes-on : isEnd (o .answer) ≡ false → Turn s first whole (n + 1) after (over out (5 * n) (fiveOf (o .answer)))
+    goes-on h =
+        turn-next s first whole n st out t room held (o .answer) after answer leaves h
+        (record {
+          good = made-good s place html checks starts ends count (t .ripe .starts) (t .ripe .ends) (t .ripe .good) r starts' ends' e o m;
+          starts = omega (arith, after-starts, t .ripe .starts);
+          ends = omega (arith, after-ends, t .ripe .ends);
+        })

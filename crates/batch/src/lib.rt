@@ -7,20 +7,47 @@ ghost use mathlib.Core.Path.{_≡_};
 ghost use mathlib.Core.List.{[], _∷_};
 ghost use Prim.Native.Nat.{_+_, _≤_, _<_};
 ghost use lib.ListN.{length};
+ghost use lib.Dec.{ltb};
+ghost use Rattle.scan.specs.First.{pick};
 ghost use Rattle.scan.specs.Lists.{over};
-ghost use Rattle.attributes.specs.Run.{runOf};
 ghost use Rattle.attributes.specs.Next.{lentState};
-ghost use Rattle.batch.specs.Batch.{listed, fiveOf, fivesOf, Ripe, roomOf, leftOf, leftBatch, afterOf, writtenOf, batchOf};
+ghost use Rattle.batch.specs.Batch.{whyNumber, listed, fiveOf, Ripe, batched, readOf, batchOf};
+ghost use Rattle.batch.specs.declared.Why.the-variants.{OutFull, AtEnd};
 use attributes::Answer;
 use attributes::Place;
 use attributes::Span;
+use attributes::Stepped;
+
+// Why a batch has no more answers.
+pub enum Why {
+    // `out` has no room for another.
+    OutFull,
+    // There are no more.
+    AtEnd,
+    // The next key is due to be recorded, and no place is lent for it. The caller lends longer tables, with the recorded keys
+    // in their places, and goes on.
+    LendMore,
+}
 
 // What a batch leaves.
 pub enum Batch {
     // This many answers were written; the place and the number of recorded keys with which the next call goes on.
-    Read(usize, Place, usize),
-    // A table has not 256 places: nothing was read or written.
+    Read(usize, Place, usize, Why),
+    // A table has more places than an iterator's: nothing was read or written.
     WrongTables,
+}
+
+impl Why {
+    // 0 for a full output, 1 for the end, 2 where a place is lacking.
+    pub fn number(self) -> usize
+        ensures { λ r. ⌜ r ≡ whyNumber self ⌝ }
+    {
+        match self {
+            Why::OutFull => 0,
+            Why::AtEnd => 1,
+            Why::LendMore => 2,
+        }
+    }
 }
 
 // An answer as five numbers.
@@ -83,7 +110,8 @@ fn put(out: &mut [usize], at: usize, x: Five)
     out[at + 4] = x.d;
 }
 
-// The batch of a state that is good: a step for each answer that there is room for, up to the end.
+// The batch of a state that is good: a step for each answer that there is room for, up to the end, or to a key that has no
+// place.
 fn read_good<'a>(
     tag: &[u8],
     starts: &'a mut [usize],
@@ -95,26 +123,41 @@ fn read_good<'a>(
     out: &mut [usize],
 ) -> Batch
     requires { ⌜ Ripe (now tag) (lentState place html checks (now starts) (now ends) count) ⌝ }
-    ensures { λ r. ⌜ (r ≡ leftBatch (now (tag .entry)) (lentState place html checks (now (starts .entry)) (now (ends .entry)) count) (now (out .entry))) × (now (starts .exit) ≡ leftOf (roomOf (now (out .entry))) (now (tag .entry)) (lentState place html checks (now (starts .entry)) (now (ends .entry)) count) .starts) × (now (ends .exit) ≡ leftOf (roomOf (now (out .entry))) (now (tag .entry)) (lentState place html checks (now (starts .entry)) (now (ends .entry)) count) .ends) × (now (out .exit) ≡ over (now (out .entry)) 0 (fivesOf (runOf (roomOf (now (out .entry))) (now (tag .entry)) (lentState place html checks (now (starts .entry)) (now (ends .entry)) count)))) ⌝ }
+    ensures { λ r.
+        ⌜ batched r (now (starts .exit)) (now (ends .exit)) (now (out .exit))
+        ≡ readOf (now (tag .entry)) (lentState place html checks (now (starts .entry)) (now (ends .entry)) count) (now (out .entry)) ⌝ }
 {
     let mut stand = place;
     let mut recorded = count;
     let mut n = 0;
     let mut at = 0;
     while out.len() - at >= 5 {
-        let made = attributes::step_lent(tag, starts, ends, html, checks, recorded, stand);
+        let step = attributes::step_in(tag, starts, ends, html, checks, recorded, stand);
+        let Stepped::Made(made) = step else {
+            return Batch::Read(n, stand, recorded, Why::LendMore);
+        };
         let answer = made.answer;
         stand = made.place;
         recorded = made.count;
         let x = numbers(answer);
         if x.code == 0 {
-            return Batch::Read(n, stand, recorded);
+            return Batch::Read(n, stand, recorded, Why::AtEnd);
         }
         put(out, at, x);
         at += 5;
         n += 1;
     }
-    Batch::Read(n, stand, recorded)
+    Batch::Read(n, stand, recorded, Why::OutFull)
+}
+
+// Refusal 7 is one answer, and the end follows it.
+fn after_seven(room: usize) -> Why
+    ensures { λ r. ⌜ r ≡ pick (ltb room 10) OutFull AtEnd ⌝ }
+{
+    if room < 10 {
+        return Why::OutFull;
+    }
+    Why::AtEnd
 }
 
 // As many answers of a run as `out` holds, five numbers each, from the place and the recorded keys that are given; the end
@@ -130,22 +173,24 @@ pub fn read_batch<'a>(
     place: Place,
     out: &mut [usize],
 ) -> Batch
-    ensures { λ r. ⌜ (r ≡ batchOf (now (tag .entry)) (lentState place html checks (now (starts .entry)) (now (ends .entry)) count) (now (out .entry))) × (now (starts .exit) ≡ afterOf (now (tag .entry)) (lentState place html checks (now (starts .entry)) (now (ends .entry)) count) (now (out .entry)) .starts) × (now (ends .exit) ≡ afterOf (now (tag .entry)) (lentState place html checks (now (starts .entry)) (now (ends .entry)) count) (now (out .entry)) .ends) × (now (out .exit) ≡ writtenOf (now (tag .entry)) (lentState place html checks (now (starts .entry)) (now (ends .entry)) count) (now (out .entry))) ⌝ }
+    ensures { λ r.
+        ⌜ batched r (now (starts .exit)) (now (ends .exit)) (now (out .exit))
+        ≡ batchOf (now (tag .entry)) (lentState place html checks (now (starts .entry)) (now (ends .entry)) count) (now (out .entry)) ⌝ }
 {
-    if starts.len() != keys::CAPACITY {
+    if starts.len() > keys::CAPACITY {
         return Batch::WrongTables;
     }
-    if ends.len() != keys::CAPACITY {
+    if ends.len() > keys::CAPACITY {
         return Batch::WrongTables;
     }
     if out.len() < 5 {
-        return Batch::Read(0, place, count);
+        return Batch::Read(0, place, count, Why::OutFull);
     }
-    if !attributes::state_good(tag, starts, ends, checks, count, place) {
+    if !attributes::good_in(tag, starts, ends, count, place) {
         attributes::clear(starts);
         attributes::clear(ends);
         put(out, 0, numbers(Answer::BadState));
-        return Batch::Read(1, Place::Done, 0);
+        return Batch::Read(1, Place::Done, 0, after_seven(out.len()));
     }
     read_good(tag, starts, ends, html, checks, count, place, out)
 }

@@ -1,8 +1,8 @@
 -- An iterator that stands in lent memory: two tables of recorded keys, and three numbers.
 use Prim.Native.Nat.{ℕ}
-use mathlib.Core.Bool.{Bool}
+use mathlib.Core.Bool.{Bool, _&&_}
 use mathlib.Core.List.{List, [], _∷_}
-use lib.ListN.{length, getD}
+use lib.ListN.{length, getD, set}
 use lib.Dec.{eqb}
 use Rattle.scan.specs.First.{pick}
 use Rattle.attributes.specs.declared.Place.{Place}
@@ -36,6 +36,17 @@ positionOf (SkipEqValue o) = o
 -- the three numbers: the place's kind and position, and how many keys are recorded
 unfoldable pub threeOf : Place → ℕ → List ℕ
 threeOf place recorded = kindOf place ∷ positionOf place ∷ recorded ∷ []
+
+-- two places are the same
+unfoldable pub samePlace : Place → Place → Bool
+samePlace p q = eqb (kindOf p) (kindOf q) && eqb (positionOf p) (positionOf q)
+
+-- The numbers after a call: one that leaves the place as it was leaves kind and position as they were, whatever stands beside
+-- done; done that is newly reached is 0, 0. A fourth number, where there is one, is not touched.
+unfoldable pub settledOf : List ℕ → (before after : Place) → ℕ → List ℕ
+settledOf state before after recorded =
+    pick (samePlace before after) (set state 2 recorded)
+    (set (set (set state 2 recorded) 0 (kindOf after)) 1 (positionOf after))
 
 -- the iterator that stands in lent memory
 unfoldable pub heldIn : (tag starts ends state : List ℕ) (html checks : Bool) → IterState

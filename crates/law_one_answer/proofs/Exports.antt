@@ -9,8 +9,8 @@ use ghost.Atoms.{Atoms}
 use contract.Monad.{Fun}
 use Prim.Native.Nat.{ℕ}
 use Rattle.law_one_answer.specs.Settled.{Settled}
-use Rattle.batch.specs.declared.Batch.{Batch}
 use Rattle.lines.specs.declared.Paged.{Paged}
+use Rattle.lines.specs.Page.{PageLeft}
 use Rattle.mezzulidda.specs.Reading.{Reading as Batch-reading}
 use Rattle.export_memory.specs.Boundary.{Crossed, Asked}
 use Rattle.export_names.specs.Names.{Names}
@@ -41,11 +41,8 @@ use Rattle.export_lookups.proofs.mz_binding_of as export-lookups·mz-binding-of
 use Rattle.export_names.proofs.mz_resolve_all as export-names·mz-resolve-all
 
 -- a page is what is left and its length
-abbrev paged : Batch × ℕ → Paged
-paged w = record { left = w .0; length = w .1 }
-
-same-page : (x y : Paged) → x .left ≡ y .left → x .length ≡ y .length → x ≡ y
-same-page x y a b = ap paged (together (x .left, x .length) (y .left, y .length) a b)
+abbrev paged : PageLeft → Paged
+paged x = record { left = x .batch .batch; length = x .length }
 
 module _ {M : Type 1} (𝓤 : URA M) (H : Heap 𝓤) (A : Atoms 𝓤) (mem : Memory → SProp 𝓤) (run : Routine → Fun 𝓤) where
   pub lines-put-lines : Settled 𝓤 lines·put-lines.ended (lines·put-lines.clauses 𝓤 H A mem run)
@@ -55,7 +52,7 @@ module _ {M : Type 1} (𝓤 : URA M) (H : Heap 𝓤) (A : Atoms 𝓤) (mem : Mem
   lines-answers κs a g y z = alone 𝓤 _ y z refl
 
   pub lines-page : Settled 𝓤 lines·page.ended (lines·page.clauses 𝓤 H A mem run)
-  lines-page κs a g y z = follows 𝓤 (λ p q. together y z (same-page (y .0) (z .0) (p .0 ∙ sym (q .0)) (p .1 ∙ sym (q .1))) (together (y .1) (z .1) refl (together (y .1 .1) (z .1 .1) (p .2 ∙ sym (q .2)) (together (y .1 .1 .1) (z .1 .1 .1) (p .3 ∙ sym (q .3)) (together (y .1 .1 .1 .1) (z .1 .1 .1 .1) refl (together (y .1 .1 .1 .1 .1) (z .1 .1 .1 .1 .1) refl (together (y .1 .1 .1 .1 .1 .1) (z .1 .1 .1 .1 .1 .1) refl (together (y .1 .1 .1 .1 .1 .1 .1) (z .1 .1 .1 .1 .1 .1 .1) refl (together (y .1 .1 .1 .1 .1 .1 .1 .1) (z .1 .1 .1 .1 .1 .1 .1 .1) (p .4 ∙ sym (q .4)) (together (y .1 .1 .1 .1 .1 .1 .1 .1 .1) (z .1 .1 .1 .1 .1 .1 .1 .1 .1) (p .5 ∙ sym (q .5)) refl))))))))))
+  lines-page κs a g y z = read-off 𝓤 (λ (x : PageLeft). (paged x, (tt, (x .batch .starts, (x .batch .ends, (tt, (tt, (tt, (tt, (x .batch .out, (x .text, tt)))))))))))
 
   pub mezzulidda-mz-split : Settled 𝓤 mezzulidda·mz-split.ended (mezzulidda·mz-split.clauses 𝓤 H A mem run)
   mezzulidda-mz-split κs a g y z = alone 𝓤 _ y z refl

@@ -18,6 +18,7 @@ use Rattle.attributes.specs.declared.Outcome.{Outcome}
 use Rattle.attributes.specs.declared.Stepped.{Stepped}
 use Rattle.attributes.specs.declared.Stepped.the-variants.{Made, LendMore}
 use Rattle.batch.specs.declared.Five.{Five}
+use Rattle.batch.specs.Batch.{Batched}
 use Rattle.law_one_answer.proofs.Ends.{follows, together, alone, read-off}
 use Rattle.scan.proofs.is_whitespace as scan·is-whitespace
 use Rattle.scan.proofs.ends_key as scan·ends-key
@@ -64,6 +65,7 @@ use Rattle.parts.proofs.key_part as parts·key-part
 use Rattle.parts.proofs.value_part as parts·value-part
 use Rattle.parts.proofs.as_bool as parts·as-bool
 use Rattle.batch.proofs.numbers as batch·numbers
+use Rattle.batch.proofs.Why.number as batch·Why·number
 use Rattle.batch.proofs.read_batch as batch·read-batch
 use Rattle.held.proofs.new as held·new
 use Rattle.held.proofs.html as held·html
@@ -72,6 +74,7 @@ use Rattle.held.proofs.next as held·next
 use Rattle.held.proofs.first as held·first
 use Rattle.cursor.proofs.place_from as cursor·place-from
 use Rattle.cursor.proofs.leave as cursor·leave
+use Rattle.cursor.proofs.settle as cursor·settle
 
 -- the outcome of a step on lent tables, read off what the contract states
 abbrev outcome : Reading → Outcome
@@ -227,8 +230,11 @@ module _ {M : Type 1} (𝓤 : URA M) (H : Heap 𝓤) (A : Atoms 𝓤) (mem : Mem
   pub batch-numbers : Settled 𝓤 batch·numbers.ended (batch·numbers.clauses 𝓤 H A mem run)
   batch-numbers κs a g y z = follows 𝓤 (λ p q. together y z (ap fiveOfList (p ∙ sym q)) refl)
 
+  pub batch-Why-number : Settled 𝓤 batch·Why·number.ended (batch·Why·number.clauses 𝓤 H A mem run)
+  batch-Why-number κs a g y z = alone 𝓤 _ y z refl
+
   pub batch-read-batch : Settled 𝓤 batch·read-batch.ended (batch·read-batch.clauses 𝓤 H A mem run)
-  batch-read-batch κs a g y z = follows 𝓤 (λ p q. together y z (p .0 ∙ sym (q .0)) (together (y .1) (z .1) refl (together (y .1 .1) (z .1 .1) (p .1 ∙ sym (q .1)) (together (y .1 .1 .1) (z .1 .1 .1) (p .2 ∙ sym (q .2)) (together (y .1 .1 .1 .1) (z .1 .1 .1 .1) refl (together (y .1 .1 .1 .1 .1) (z .1 .1 .1 .1 .1) refl (together (y .1 .1 .1 .1 .1 .1) (z .1 .1 .1 .1 .1 .1) refl (together (y .1 .1 .1 .1 .1 .1 .1) (z .1 .1 .1 .1 .1 .1 .1) refl (together (y .1 .1 .1 .1 .1 .1 .1 .1) (z .1 .1 .1 .1 .1 .1 .1 .1) (p .3 ∙ sym (q .3)) refl)))))))))
+  batch-read-batch κs a g y z = read-off 𝓤 (λ (x : Batched). (x .batch, (tt, (x .starts, (x .ends, (tt, (tt, (tt, (tt, (x .out, tt))))))))))
 
   pub held-new : Settled 𝓤 held·new.ended (held·new.clauses 𝓤 H A mem run)
   held-new κs a g y z = alone 𝓤 _ y z refl
@@ -250,3 +256,6 @@ module _ {M : Type 1} (𝓤 : URA M) (H : Heap 𝓤) (A : Atoms 𝓤) (mem : Mem
 
   pub cursor-leave : Settled 𝓤 cursor·leave.ended (cursor·leave.clauses 𝓤 H A mem run)
   cursor-leave κs a g y z = follows 𝓤 (λ p q. together y z refl (together (y .1) (z .1) (p ∙ sym q) refl))
+
+  pub cursor-settle : Settled 𝓤 cursor·settle.ended (cursor·settle.clauses 𝓤 H A mem run)
+  cursor-settle κs a g y z = follows 𝓤 (λ p q. together y z refl (together (y .1) (z .1) (p ∙ sym q) refl))

@@ -16,14 +16,17 @@ use Rattle.attributes.specs.declared.Answer.{Answer}
 use Rattle.attributes.specs.declared.Place.{Place}
 use Rattle.attributes.specs.declared.IterState.{IterState}
 use Rattle.attributes.specs.Next.{nextOf, leaves, lentState}
+use Rattle.attributes.specs.Lent.{wholeNext, needsMore, steppedOf}
 use Rattle.attributes.specs.Run.{isEnd, consUnless, runOf, answersOf}
 use Rattle.attributes.proofs.Run.{cons-most, run-whole}
 use Rattle.attributes.proofs.Good.{Sized, next-sized}
 use Rattle.batch.specs.declared.Batch.{Batch}
 use Rattle.batch.specs.declared.Batch.the-variants.{Read, WrongTables}
-use Rattle.batch.specs.Batch.{fiveOf, fivesOf, leftOf, tablesFit, roomOf, readOf, afterOf, writtenOf, leftBatch, batchOf}
+use Rattle.batch.specs.declared.Why.{Why}
+use Rattle.batch.specs.declared.Why.the-variants.{AtEnd, LendMore}
+use Rattle.batch.specs.Batch.{fiveOf, fivesOf, leftOf, Ran, ran, ahead, ranOf, tablesLent, roomOf, Batched, batched, shownOf, readOf, batchOf}
 use Rattle.batch.proofs.Turns.{five-length}
-use Rattle.batch.proofs.Ends.{fit}
+use Rattle.batch.proofs.Full.{full-batch}
 use Rattle.lines.specs.Page.{answersIn}
 
 -- A run of n answers.
@@ -113,7 +116,7 @@ module _ (s : List ℕ) (first : IterState) (n : ℕ) (st : IterState) (a : Stan
   pub stand-bound : n ≤ suc (length s)
   stand-bound = omega (arith, run-bound n s first (a .begun), a .many)
 
--- What `read_batch` says, of any tables.
+-- The numbers of answers.
 
 pub fives-length : (l : List Answer) → length (fivesOf l) ≡ 5 * length l
 unfolding fivesOf
@@ -125,42 +128,30 @@ unfolding fivesOf
 fives-append [] m = refl
 fives-append (a ∷ l) m = rw (fives-append l m) (sym (append-assoc (fiveOf a) (fivesOf l) (fivesOf m)))
 
+-- What `read_batch` says, of any tables.
+
+ran-by : (p q : Bool) (n : ℕ) (a : Answer) (st after : IterState) (x : Ran) → length (x .answers) ≤ n → length (pick p (ran [] st LendMore) (pick q (ran [] after AtEnd) (ahead a x)) .answers) ≤ suc n
+ran-by true q n a st after x h = omega arith
+ran-by false true n a st after x h = omega arith
+ran-by false false n a st after x h = omega arith
+
+ran-most : (n : ℕ) (s : List ℕ) (st : IterState) → length (ranOf n s st .answers) ≤ n
+unfolding ranOf
+ran-most zero s st = omega arith
+ran-most (suc n) s st = ran-by (needsMore s st) (isEnd (wholeNext s st .answer)) n (wholeNext s st .answer) st (steppedOf s st) (ranOf n s (steppedOf s st)) (ran-most n s (steppedOf s st))
+
 module _ (s : List ℕ) (st : IterState) (out : List ℕ) where
-  pub read-many : answersIn (batchOf s st out) ≡ length (readOf s st out)
-  unfolding batchOf readOf leftBatch
-  read-many = by (tablesFit st) where
-    by : (t : Bool) → answersIn (pick t (leftBatch s st out) WrongTables) ≡ length (pick t (runOf (roomOf out) s st) [])
-    by true = refl
-    by false = refl
+  read-fits : 5 * length (ranOf (roomOf out) s st .answers) ≤ length out
+  unfolding roomOf
+  read-fits = omega (arith, ran-most (length out / 5) s st)
 
-  pub read-fits : 5 * length (readOf s st out) ≤ length out
-  unfolding readOf roomOf
-  read-fits = by (tablesFit st) where
-    by : (t : Bool) → 5 * length (pick t (runOf (roomOf out) s st) []) ≤ length out
-    by true = omega (arith, run-most (length out / 5) s st)
-    by false = omega arith
-
-  pub written-front : (n : ℕ) → n ≡ 5 * length (readOf s st out) → take n (writtenOf s st out) ≡ fivesOf (readOf s st out)
-  unfolding writtenOf over
-  written-front n e = take-at (fivesOf (readOf s st out)) (drop (0 + length (fivesOf (readOf s st out))) out) n (fives-length (readOf s st out) ∙ sym e)
-
-  pub written-length : length (writtenOf s st out) ≡ length out
-  unfolding writtenOf
-  written-length = over-length out 0 (fivesOf (readOf s st out)) (omega (arith, read-fits, fives-length (readOf s st out)))
-
-  -- tables that fit
-  module _ (z : Sized st) where
-    pub fit-read : readOf s st out ≡ runOf (roomOf out) s st
-    unfolding readOf
-    fit-read = rw (fit s st out z)
-
-    pub fit-after : afterOf s st out ≡ leftOf (roomOf out) s st
-    unfolding afterOf
-    fit-after = rw (fit s st out z)
-
-    pub fit-batch : batchOf s st out ≡ leftBatch s st out
-    unfolding batchOf
-    fit-batch = rw (fit s st out z)
+  -- the output keeps its length, and has room for what was written
+  pub batch-sizes : (length (batchOf s st out .out) ≡ length out) × (5 * answersIn (batchOf s st out .batch) ≤ length out)
+  unfolding batchOf readOf shownOf
+  batch-sizes = by (tablesLent st) where
+    by : (t : Bool) → (length (pick t (readOf s st out) (batched WrongTables (st .starts) (st .ends) out) .out) ≡ length out) × (5 * answersIn (pick t (readOf s st out) (batched WrongTables (st .starts) (st .ends) out) .batch) ≤ length out)
+    by true = (over-length out 0 (fivesOf (ranOf (roomOf out) s st .answers)) (omega (arith, read-fits, fives-length (ranOf (roomOf out) s st .answers))), read-fits)
+    by false = (refl, omega arith)
 
 -- The mode and the checks stay.
 
@@ -180,25 +171,35 @@ module _ (s : List ℕ) (place : Place) (html checks : Bool) (starts ends : List
   abbrev stood : IterState
   stood = lentState place html checks starts ends count
 
-  module _ (z : Sized stood) {b : Batch} (eb : b ≡ batchOf s stood out) where
+  module _ (z : Sized stood) {b : Batch} {starts' ends' written : List ℕ} (e : batched b starts' ends' written ≡ batchOf s stood out) where
+    -- all that it has, for full tables
+    is : batched b starts' ends' written ≡ batched (Read (length (runOf (roomOf out) s stood)) (leftOf (roomOf out) s stood .place) (leftOf (roomOf out) s stood .count) (ranOf (roomOf out) s stood .why)) (leftOf (roomOf out) s stood .starts) (leftOf (roomOf out) s stood .ends) (over out 0 (fivesOf (runOf (roomOf out) s stood)))
+    is = e ∙ full-batch s stood out z
+
     pub never-wrong : b ≡ WrongTables → ⊥
-    unfolding leftBatch
-    never-wrong e =
-        let f = fit-batch s stood out z in
+    never-wrong w =
+        let f = ap (λ (x : Batched). x .batch) is in
         let x : _≡_ {A = ℕ} 0 1 = cc in
         omega arith
 
-    module _ {n : ℕ} {next : Place} {keys : ℕ} (e : b ≡ Read n next keys) where
+    pub read-text : written ≡ over out 0 (fivesOf (runOf (roomOf out) s stood))
+    read-text = ap (λ (x : Batched). x .out) is
+
+    module _ {n : ℕ} {next : Place} {keys : ℕ} {why : Why} (r : b ≡ Read n next keys why) where
       pub read-count : n ≡ length (runOf (roomOf out) s stood)
-      unfolding leftBatch
       read-count =
-          let f = fit-batch s stood out z in
+          let f = ap (λ (x : Batched). x .batch) is in
           cc
 
-      pub read-left : {starts' ends' : List ℕ} → starts' ≡ afterOf s stood out .starts → ends' ≡ afterOf s stood out .ends → lentState next html checks starts' ends' keys ≡ leftOf (roomOf out) s stood
-      unfolding leftBatch
-      read-left es ee =
-          let f = fit-batch s stood out z in
+      pub read-left : lentState next html checks starts' ends' keys ≡ leftOf (roomOf out) s stood
+      read-left =
+          let f = ap (λ (x : Batched). x .batch) is in
           let m = modes (roomOf out) s stood in
-          let a = fit-after s stood out z in
-          state-is (leftOf (roomOf out) s stood) (cc) (sym (m .0)) (sym (m .1)) (es ∙ ap (λ (x : IterState). x .starts) a) (ee ∙ ap (λ (x : IterState). x .ends) a) (cc)
+          state-is (leftOf (roomOf out) s stood) (cc) (sym (m .0)) (sym (m .1)) (ap (λ (x : Batched). x .starts) is) (ap (λ (x : Batched). x .ends) is) (cc)
+
+      pub read-front : take (5 * n) written ≡ fivesOf (runOf (roomOf out) s stood)
+      unfolding over
+      read-front =
+          let l : List Answer = runOf (roomOf out) s stood in
+          let a : length (fivesOf l) ≡ 5 * n = fives-length l ∙ ap (λ (k : ℕ). 5 * k) (sym read-count) in
+          ap (take (5 * n)) read-text ∙ take-at (fivesOf l) (drop (0 + length (fivesOf l)) out) (5 * n) a

@@ -1,6 +1,7 @@
 -- A page shows the answers: the five numbers of each give its own line.
 use Prim.Native.Nat.{ℕ, zero, suc, _+_, _*_, _/_, _≤_}
 use mathlib.Core.Path.{_≡_, refl, sym, ap, _∙_}
+use mathlib.Core.Bool.{Bool}
 use mathlib.Core.List.{List, [], _∷_, _++_}
 use native.Mathlib.Omega.{arith}
 use lib.ListN.{length, take, drop}
@@ -11,12 +12,18 @@ use Rattle.attributes.specs.declared.IterState.{IterState}
 use Rattle.attributes.specs.Numbers.{numbersOf}
 use Rattle.attributes.specs.Run.{runOf}
 use Rattle.attributes.proofs.Good.{Sized}
-use Rattle.batch.specs.Batch.{fiveOf, fivesOf, roomOf, readOf}
+use Rattle.attributes.specs.declared.Place.{Place}
+use Rattle.attributes.specs.Next.{lentState}
+use Rattle.scan.specs.Lists.{over}
+use Rattle.batch.specs.Batch.{fiveOf, fivesOf, roomOf, Batched, batched, batchOf}
+use Rattle.batch.specs.declared.Batch.{Batch}
+use Rattle.batch.proofs.Full.{full-batch}
 use Rattle.batch.proofs.Turns.{five-length}
 use Rattle.lines.specs.Lines.{lineOf, linesOf, valuesOf, ownOf, fiveLines, linesIn}
-use Rattle.lines.specs.Page.{pageOf}
+use Rattle.lines.specs.Page.{answersIn, PageLeft, pageLeft, linesBy, leftBy, pageOf}
+use Rattle.lines.specs.declared.Paged.{Paged}
 use Rattle.lines.proofs.Text.{lines-room}
-use Rattle.lines.proofs.Batches.{fives-length, fit-read, run-most}
+use Rattle.lines.proofs.Batches.{fives-length, run-most, read-front}
 
 -- the zeros behind an answer's numbers are left out
 pub own-numbers : (a : Answer) → ownOf (fiveOf a) ≡ numbersOf a
@@ -41,11 +48,34 @@ fives-text (a ∷ l) =
     rw (take-at (fiveOf a) (fivesOf l) 5 (five-length a), drop-at (fiveOf a) (fivesOf l) 5 (five-length a), own-numbers a, fives-text l)
 
 -- With room for 107 bytes an answer, a page is the lines of the next answers of the run.
-pub page-lines : (s : List ℕ) (st : IterState) (numbers out : List ℕ) → Sized st → 107 * roomOf numbers ≤ length out → pageOf s st numbers out ≡ linesOf (runOf (roomOf numbers) s st)
-unfolding pageOf
-page-lines s st numbers out z h =
+pub page-lines : (s : List ℕ) (place : Place) (html checks : Bool) (starts ends : List ℕ) (count : ℕ) (numbers text : List ℕ) →
+    let st = lentState place html checks starts ends count in
+    Sized st → 107 * roomOf numbers ≤ length text → linesBy (batchOf s st numbers) text ≡ linesOf (runOf (roomOf numbers) s st)
+unfolding linesBy
+page-lines s place html checks starts ends count numbers text z h =
+    let st = lentState place html checks starts ends count in
     let l : List Answer = runOf (roomOf numbers) s st in
     let many = fives-length l in
     let few = run-most (roomOf numbers) s st in
     let n : length (fivesOf l) / 5 ≡ length l = omega arith in
-    rw (fit-read s st numbers z, lines-room (fivesOf l) out (omega arith), n) (fives-text l)
+    let front : take (5 * answersIn (batchOf s st numbers .batch)) (batchOf s st numbers .out) ≡ fivesOf l = rw (full-batch s st numbers z) (read-front s place html checks starts ends count numbers z (sym (full-batch s st numbers z)) refl) in
+    rw (front, lines-room (fivesOf l) text (omega arith), n, fives-text l)
+
+-- what a page leaves, part by part
+module _ (s : List ℕ) (st : IterState) (numbers text : List ℕ) {p : Paged} {starts' ends' numbers' text' : List ℕ} (e : pageLeft p starts' ends' numbers' text' ≡ pageOf s st numbers text) where
+  pub page-batch : batched (p .left) starts' ends' numbers' ≡ batchOf s st numbers
+  unfolding pageOf leftBy
+  page-batch = ap (λ (x : PageLeft). x .batch) e
+
+  pub page-length : p .length ≡ length (linesBy (batchOf s st numbers) text)
+  unfolding pageOf leftBy
+  page-length = ap (λ (x : PageLeft). x .length) e
+
+  pub page-text : text' ≡ over text 0 (linesBy (batchOf s st numbers) text)
+  unfolding pageOf leftBy
+  page-text = ap (λ (x : PageLeft). x .text) e
+
+-- what the code makes
+pub page-is : (s : List ℕ) (st : IterState) (numbers text : List ℕ) (left : Batch) (starts' ends' numbers' text' : List ℕ) (k len : ℕ) → batched left starts' ends' numbers' ≡ batchOf s st numbers → k ≡ answersIn left → len ≡ length (linesIn (take (5 * k) numbers') text) → text' ≡ over text 0 (linesIn (take (5 * k) numbers') text) → pageLeft (record { left = left; length = len }) starts' ends' numbers' text' ≡ pageOf s st numbers text
+unfolding pageOf leftBy linesBy
+page-is s st numbers text left starts' ends' numbers' text' k len e ek el et = rw (el, et, ek) (ap (λ (x : Batched). leftBy x text) e)

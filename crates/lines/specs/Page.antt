@@ -1,17 +1,41 @@
 -- A page: the lines of the next answers of a run, as many as a lent output of numbers holds.
-use Prim.Native.Nat.{ℕ}
+use Prim.Native.Nat.{ℕ, _*_}
 use mathlib.Core.List.{List}
+use lib.ListN.{length, take}
+use Rattle.scan.specs.Lists.{over}
 use Rattle.attributes.specs.declared.IterState.{IterState}
 use Rattle.batch.specs.declared.Batch.{Batch}
 use Rattle.batch.specs.declared.Batch.the-variants.{Read, WrongTables}
-use Rattle.batch.specs.Batch.{fivesOf, readOf}
+use Rattle.batch.specs.Batch.{Batched, batchOf}
+use Rattle.lines.specs.declared.Paged.{Paged}
 use Rattle.lines.specs.Lines.{linesIn}
 
 -- how many answers a batch wrote
 abbrev pub answersIn : Batch → ℕ
-answersIn (Read n place count) = n
+answersIn (Read n place count why) = n
 answersIn WrongTables = 0
 
--- what a page writes (`page-lines`, proofs/Text: with room for it, the lines of the answers)
-unfoldable pub pageOf : List ℕ → IterState → List ℕ → List ℕ → List ℕ
-pageOf s st numbers out = linesIn (fivesOf (readOf s st numbers)) out
+-- what a page leaves: a batch, and the text with its length
+pub record PageLeft : Type 0 where
+  pub batch : Batched
+  pub length : ℕ
+  pub text : List ℕ
+
+abbrev pub pageLeft : Paged → (starts ends numbers text : List ℕ) → PageLeft
+pageLeft p starts ends numbers text =
+    record {
+      batch = record { batch = p .left; starts = starts; ends = ends; out = numbers };
+      length = p .length;
+      text = text;
+    }
+
+-- the lines of the numbers that a batch wrote, in a text that has room for them
+unfoldable pub linesBy : Batched → List ℕ → List ℕ
+linesBy x text = linesIn (take (5 * answersIn (x .batch)) (x .out)) text
+
+unfoldable pub leftBy : Batched → List ℕ → PageLeft
+leftBy x text = record { batch = x; length = length (linesBy x text); text = over text 0 (linesBy x text) }
+
+-- (`page-lines`, proofs/Pages: with room for them, the lines of the answers)
+unfoldable pub pageOf : List ℕ → IterState → List ℕ → List ℕ → PageLeft
+pageOf s st numbers text = leftBy (batchOf s st numbers) text

@@ -12,9 +12,8 @@ ghost use Prim.Native.Nat.{_+_, _*_, _≤_};
 ghost use lib.ListN.{length};
 ghost use Rattle.scan.specs.Lists.{over};
 ghost use Rattle.attributes.specs.Next.{lentState};
-ghost use Rattle.batch.specs.Batch.{batchOf, afterOf, writtenOf};
 ghost use Rattle.lines.specs.Lines.{decimalOf, spaced, letterOf, shownFrom, valuesOf, ownOf, lineOf, linesIn};
-ghost use Rattle.lines.specs.Page.{answersIn, pageOf};
+ghost use Rattle.lines.specs.Page.{answersIn, pageLeft, pageOf};
 
 // No line is longer: a letter, five numbers of at most 20 digits with a blank before each, a line feed.
 pub const LONGEST: usize = 107;
@@ -75,7 +74,7 @@ fn letter_of(code: usize) -> u8
     b'E'
 }
 
-// An attribute's code is not shown, a refusal's is.
+// An attribute's code is not pageLeft, a refusal's is.
 fn shown_from(code: usize) -> usize
     ensures { λ r. ⌜ r ≡ shownFrom code ⌝ }
 {
@@ -149,7 +148,7 @@ pub fn answers(left: Batch) -> usize
     ensures { λ r. ⌜ r ≡ answersIn left ⌝ }
 {
     match left {
-        Batch::Read(n, _, _) => n,
+        Batch::Read(n, _, _, _) => n,
         Batch::WrongTables => 0,
     }
 }
@@ -173,7 +172,9 @@ pub fn page<'a>(
     numbers: &mut [usize],
     out: &mut [u8],
 ) -> Paged
-    ensures { λ r. ⌜ (r .left ≡ batchOf (now (tag .entry)) (lentState place html checks (now (starts .entry)) (now (ends .entry)) count) (now (numbers .entry))) × (r .length ≡ length (pageOf (now (tag .entry)) (lentState place html checks (now (starts .entry)) (now (ends .entry)) count) (now (numbers .entry)) (now (out .entry)))) × (now (starts .exit) ≡ afterOf (now (tag .entry)) (lentState place html checks (now (starts .entry)) (now (ends .entry)) count) (now (numbers .entry)) .starts) × (now (ends .exit) ≡ afterOf (now (tag .entry)) (lentState place html checks (now (starts .entry)) (now (ends .entry)) count) (now (numbers .entry)) .ends) × (now (numbers .exit) ≡ writtenOf (now (tag .entry)) (lentState place html checks (now (starts .entry)) (now (ends .entry)) count) (now (numbers .entry))) × (now (out .exit) ≡ over (now (out .entry)) 0 (pageOf (now (tag .entry)) (lentState place html checks (now (starts .entry)) (now (ends .entry)) count) (now (numbers .entry)) (now (out .entry)))) ⌝ }
+    ensures { λ r.
+        ⌜ pageLeft r (now (starts .exit)) (now (ends .exit)) (now (numbers .exit)) (now (out .exit))
+        ≡ pageOf (now (tag .entry)) (lentState place html checks (now (starts .entry)) (now (ends .entry)) count) (now (numbers .entry)) (now (out .entry)) ⌝ }
 {
     let left = batch::read_batch(tag, starts, ends, html, checks, count, place, numbers);
     let to = 5 * answers(left);

@@ -52,30 +52,35 @@ pub extern "C" fn mz_verdict(name: &[u8], value: &[u8]) -> usize
 }
 
 // As many answers of a run as `out` holds, five numbers each: `batch::read_batch`. `state` is the kind of the place (0
-// done, 1 next, 2 skip value, 3 skip from `=`), its position, and the number of recorded keys; it is left as the next
-// call takes it. The result is the number of answers, or the largest number there is where a lent array has another
-// length than it has to have.
+// done, 1 next, 2 skip value, 3 skip from `=`), its position, the number of recorded keys, and why the batch stopped (0 `out`
+// is full, 1 the end, 2 the tables have no place for the next key); it is left as the next call takes it. The result is the
+// number of answers, or the largest number there is where a table has more places than there can be keys. With room for
+// no answer nothing is written.
 #[no_mangle]
 pub extern "C" fn mz_read_batch<'a>(
     tag: &[u8],
     starts: &'a mut [usize],
     ends: &'a mut [usize],
-    state: &mut [usize],
+    state: &mut [usize; 4],
     html: bool,
     checks: bool,
     out: &mut [usize],
 ) -> usize
-    ensures { λ r. ⌜ reading r (now (starts .exit)) (now (ends .exit)) (now (state .exit)) (now (out .exit)) ≡ readBatchOf (now (tag .entry)) (now (starts .entry)) (now (ends .entry)) (now (state .entry)) (now (out .entry)) html checks ⌝ }
+    ensures { λ r.
+        ⌜ reading r (now (starts .exit)) (now (ends .exit)) (now (state .exit)) (now (out .exit))
+        ≡ readBatchOf (now (tag .entry)) (now (starts .entry)) (now (ends .entry)) (now (state .entry)) (now (out .entry)) html checks ⌝ }
 {
-    if state.len() != 3 {
-        return NONE;
-    }
     let place = cursor::place_from(tag.len(), state[0], state[1]);
     let count = state[2];
+    let room = out.len();
     let batch = batch::read_batch(tag, starts, ends, html, checks, count, place, out);
-    let Batch::Read(n, left, recorded) = batch else {
+    let Batch::Read(n, left, recorded, why) = batch else {
         return NONE;
     };
-    cursor::leave(state, left, recorded);
+    if room < 5 {
+        return n;
+    }
+    cursor::settle(state, place, left, recorded);
+    state[3] = why.number();
     n
 }

@@ -5,7 +5,7 @@ use mathlib.Core.Bool.{Bool, true, false, _&&_}
 use mathlib.Core.List.{List, [], _∷_, _++_, append-nil}
 use native.Mathlib.Omega.{arith}
 use lib.ListN.{length, take, drop, getD, length-append, length-take, length-drop}
-use lib.Seq.{drop-drop, getD-drop, take-all}
+use lib.Seq.{drop-drop, getD-drop, take-all, take-at}
 use lib.Dec.{eqb, leb}
 use borrow.Author.Tests.{eq-eqb, ne-eqb, eqb-true, eqb-false, leb-true, leb-false}
 use Rattle.scan.specs.Bytes.{sameBytes}
@@ -15,8 +15,10 @@ use Rattle.attributes.specs.declared.IterState.{IterState}
 use Rattle.attributes.specs.Run.{runOf, answersOf}
 use Rattle.attributes.proofs.Run.{run-whole}
 use Rattle.attributes.proofs.Good.{Sized}
-use Rattle.batch.specs.Batch.{fivesOf, leftOf, roomOf, readOf, writtenOf}
-use Rattle.lines.proofs.Batches.{stand-first, stand-last, fives-length, fives-append, run-most, run-full, fit-read, written-front, written-length}
+use Rattle.scan.specs.Lists.{over}
+use Rattle.scan.proofs.Lists.{over-length}
+use Rattle.batch.specs.Batch.{fivesOf, leftOf, roomOf}
+use Rattle.lines.proofs.Batches.{stand-first, stand-last, fives-length, fives-append, run-most, run-full}
 use Rattle.tags_replay.specs.Replay.{twoAt, twosOf, agreesWith}
 
 pub twos-length : (n : ℕ) (l : List ℕ) → length (twosOf n l) ≡ n
@@ -136,19 +138,20 @@ module _ (s : List ℕ) (st : IterState) (z : Sized st) (m k : ℕ) (rest : List
       goes-on f = split (fivesOf (answersOf s (leftOf m s st))) le (ap fivesOf (answers-split s st z m f) ∙ fives-append (runOf m s st) (answersOf s (leftOf m s st))) ∙ rw e
 
 -- what the code compares is the batch and the recorded numbers from the place on
-pub compared : (s : List ℕ) (st : IterState) (out rec : List ℕ) (at : ℕ) → Sized st → {n : ℕ} {r : Bool} {written : List ℕ} → n ≡ length (runOf (roomOf out) s st) → written ≡ writtenOf s st out → r ≡ sameBytes (take (5 * n) written) (twosOf (length (take (5 * n) written)) (take (length rec - at) (drop at rec))) → sameBytes (fivesOf (runOf (roomOf out) s st)) (twosOf (5 * length (runOf (roomOf out) s st)) (drop at rec)) ≡ r
-compared s st out rec at z {n} {r} {written} en ew er =
+pub compared : (s : List ℕ) (st : IterState) (out rec : List ℕ) (at : ℕ) → {n : ℕ} {r : Bool} {written : List ℕ} → n ≡ length (runOf (roomOf out) s st) → written ≡ over out 0 (fivesOf (runOf (roomOf out) s st)) → r ≡ sameBytes (take (5 * n) written) (twosOf (length (take (5 * n) written)) (take (length rec - at) (drop at rec))) → sameBytes (fivesOf (runOf (roomOf out) s st)) (twosOf (5 * length (runOf (roomOf out) s st)) (drop at rec)) ≡ r
+unfolding over
+compared s st out rec at {n} {r} {written} en ew er =
     let l : List Answer = runOf (roomOf out) s st in
-    let f = fit-read s st out z in
-    let e : 5 * n ≡ 5 * length (readOf s st out) = rw (en, f) in
-    let t : take (5 * n) written ≡ fivesOf l = ap (take (5 * n)) ew ∙ written-front s st out (5 * n) e ∙ ap fivesOf f in
+    let a : length (fivesOf l) ≡ 5 * n = fives-length l ∙ ap (λ (k : ℕ). 5 * k) (sym en) in
+    let t : take (5 * n) written ≡ fivesOf l = ap (take (5 * n)) ew ∙ take-at (fivesOf l) (drop (0 + length (fivesOf l)) out) (5 * n) a in
     let d : take (length rec - at) (drop at rec) ≡ drop at rec = take-all (length rec - at) (drop at rec) (omega (arith, length-drop at rec)) in
     sym (er ∙ rw (t, d, fives-length l))
 
 -- how full a batch is, as the code asks it
-module _ (s : List ℕ) (st : IterState) (out written : List ℕ) {n : ℕ} (e : n ≡ length (runOf (roomOf out) s st)) (w : written ≡ writtenOf s st out) where
+module _ (s : List ℕ) (st : IterState) (out written : List ℕ) {n : ℕ} (e : n ≡ length (runOf (roomOf out) s st)) (w : written ≡ over out 0 (fivesOf (runOf (roomOf out) s st))) where
   size : length written ≡ length out
-  size = ap length w ∙ written-length s st out
+  unfolding roomOf
+  size = ap length w ∙ over-length out 0 (fivesOf (runOf (length out / 5) s st)) (omega (arith, fives-length (runOf (length out / 5) s st), run-most (length out / 5) s st))
 
   pub few : n < length written / 5 → length (runOf (roomOf out) s st) < roomOf out
   unfolding roomOf

@@ -87,7 +87,7 @@ fn agrees_on<'a>(
     let mut total = 0;
     loop {
         let left = batch::read_batch(tag, starts, ends, html, checks, keys, place, out);
-        let Batch::Read(n, next, count) = left else {
+        let Batch::Read(n, next, count, _) = left else {
             return false;
         };
         if answers - total < n {

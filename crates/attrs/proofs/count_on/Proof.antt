@@ -44,7 +44,7 @@ same-length c =
     let l = c .before .before .before .before .before .before .before .before .before .before .before .before .loop in
     let st = lentState (l .place) false true (l .starts) (l .ends) (l .recorded) in
     let b = c .before .before .before .before .before .before .before .before .read-batch .ensures in
-    absurd (never-wrong (a .tag .now) (l .place) false true (l .starts) (l .ends) (l .recorded) (l .numbers) (l .inv .1 .sized) (b .0) (c .enum-told .given .1))
+    absurd (never-wrong (a .tag .now) (l .place) false true (l .starts) (l .ends) (l .recorded) (l .numbers) (l .inv .1 .sized) b (c .enum-told .given .1))
 
 same-length-2 : tie.Need-same-length-2 Inv-loop μ-loop
 same-length-2 c =
@@ -52,7 +52,7 @@ same-length-2 c =
     let l = c .before .before .before .before .before .before .before .before .before .before .before .before .loop in
     let st = lentState (l .place) false true (l .starts) (l .ends) (l .recorded) in
     let b = c .before .before .before .before .before .before .before .before .read-batch .ensures in
-    absurd (never-wrong (a .tag .now) (l .place) false true (l .starts) (l .ends) (l .recorded) (l .numbers) (l .inv .1 .sized) (b .0) (c .enum-told .given .1))
+    absurd (never-wrong (a .tag .now) (l .place) false true (l .starts) (l .ends) (l .recorded) (l .numbers) (l .inv .1 .sized) b (c .enum-told .given .1))
 
 same-length-3 : tie.Need-same-length-3 Inv-loop μ-loop
 same-length-3 c =
@@ -60,7 +60,7 @@ same-length-3 c =
     let l = c .before .before .before .before .before .before .before .before .before .before .before .before .loop in
     let st = lentState (l .place) false true (l .starts) (l .ends) (l .recorded) in
     let b = c .before .before .before .before .before .before .before .before .read-batch .ensures in
-    absurd (never-wrong (a .tag .now) (l .place) false true (l .starts) (l .ends) (l .recorded) (l .numbers) (l .inv .1 .sized) (b .0) (c .enum-told .given .1))
+    absurd (never-wrong (a .tag .now) (l .place) false true (l .starts) (l .ends) (l .recorded) (l .numbers) (l .inv .1 .sized) b (c .enum-told .given .1))
 
 returns : tie.Need-returns Inv-loop μ-loop
 returns c =
@@ -68,7 +68,7 @@ returns c =
     let l = c .before .before .before .before .before .before .before .before .before .before .before .before .loop in
     let st = lentState (l .place) false true (l .starts) (l .ends) (l .recorded) in
     let b = c .before .before .before .before .before .before .before .before .read-batch .ensures in
-    absurd (never-wrong (a .tag .now) (l .place) false true (l .starts) (l .ends) (l .recorded) (l .numbers) (l .inv .1 .sized) (b .0) (c .enum-told .given .1))
+    absurd (never-wrong (a .tag .now) (l .place) false true (l .starts) (l .ends) (l .recorded) (l .numbers) (l .inv .1 .sized) b (c .enum-told .given .1))
 
 add-total : tie.Need-add-total Inv-loop μ-loop
 add-total c =
@@ -76,7 +76,7 @@ add-total c =
     let l = c .before .before .before .before .before .before .before .before .before .before .before .before .before .loop in
     let st = lentState (l .place) false true (l .starts) (l .ends) (l .recorded) in
     let b = c .before .before .before .before .before .before .before .before .before .read-batch .ensures in
-    let n = read-count (a .tag .now) (l .place) false true (l .starts) (l .ends) (l .recorded) (l .numbers) (l .inv .1 .sized) (b .0) (c .before .left .given .1) in
+    let n = read-count (a .tag .now) (l .place) false true (l .starts) (l .ends) (l .recorded) (l .numbers) (l .inv .1 .sized) b (c .before .left .given .1) in
     omega (arith, total-fits (a .tag .now) (openedOn (a .starts .now) (a .ends .now)) (l .total) st (l .inv .1) (roomOf (l .numbers)), n)
 
 same-length-4 : tie.Need-same-length-4 Inv-loop μ-loop
@@ -94,7 +94,7 @@ returns-2 c =
     let l = c .before .before .before .before .before .before .before .before .before .before .before .before .before .before .loop in
     let st = lentState (l .place) false true (l .starts) (l .ends) (l .recorded) in
     let b = c .before .before .before .before .before .before .before .before .before .before .read-batch .ensures in
-    let n = read-count (a .tag .now) (l .place) false true (l .starts) (l .ends) (l .recorded) (l .numbers) (l .inv .1 .sized) (b .0) (c .before .before .left .given .1) in
+    let n = read-count (a .tag .now) (l .place) false true (l .starts) (l .ends) (l .recorded) (l .numbers) (l .inv .1 .sized) b (c .before .before .left .given .1) in
     let z = stand-last (a .tag .now) (openedOn (a .starts .now) (a .ends .now)) (l .total) st (l .inv .1) (roomOf (l .numbers)) (omega (arith, room (l .numbers) (a .numbers .now) (l .inv .0) (c .before .before .before .before .before .before .before .before .before .before .before .before .before .before .before .before .before .before .before .pre .room))) in
     rw z (omega (arith, n, length-append (runOf (l .total) (a .tag .now) (openedOn (a .starts .now) (a .ends .now))) (runOf (roomOf (l .numbers)) (a .tag .now) st), l .inv .1 .many))
 
@@ -104,7 +104,7 @@ loop-less c =
     let l = c .before .before .before .before .before .before .before .before .before .before .before .before .before .before .loop in
     let st = lentState (l .place) false true (l .starts) (l .ends) (l .recorded) in
     let b = c .before .before .before .before .before .before .before .before .before .before .read-batch .ensures in
-    let n = read-count (a .tag .now) (l .place) false true (l .starts) (l .ends) (l .recorded) (l .numbers) (l .inv .1 .sized) (b .0) (c .before .before .left .given .1) in
+    let n = read-count (a .tag .now) (l .place) false true (l .starts) (l .ends) (l .recorded) (l .numbers) (l .inv .1 .sized) b (c .before .before .left .given .1) in
     let next = stand-next (a .tag .now) (openedOn (a .starts .now) (a .ends .now)) (l .total) st (l .inv .1) (roomOf (l .numbers)) (full (a .tag .now) st (l .numbers) (a .numbers .now) (l .inv .0) (c .before .before .before .before .before .before .before .before .before .before .before .before .before .before .before .before .before .before .before .pre .room) n (c .if1 .left)) in
     omega (arith, n, stand-bound (a .tag .now) (openedOn (a .starts .now) (a .ends .now)) (l .total + roomOf (l .numbers)) _ next 0, room (l .numbers) (a .numbers .now) (l .inv .0) (c .before .before .before .before .before .before .before .before .before .before .before .before .before .before .before .before .before .before .before .pre .room))
 
@@ -114,10 +114,10 @@ loop-again c =
     let l = c .before .before .before .before .before .before .before .before .before .before .before .before .before .before .loop in
     let st = lentState (l .place) false true (l .starts) (l .ends) (l .recorded) in
     let b = c .before .before .before .before .before .before .before .before .before .before .read-batch .ensures in
-    let n = read-count (a .tag .now) (l .place) false true (l .starts) (l .ends) (l .recorded) (l .numbers) (l .inv .1 .sized) (b .0) (c .before .before .left .given .1) in
+    let n = read-count (a .tag .now) (l .place) false true (l .starts) (l .ends) (l .recorded) (l .numbers) (l .inv .1 .sized) b (c .before .before .left .given .1) in
     let f = full (a .tag .now) st (l .numbers) (a .numbers .now) (l .inv .0) (c .before .before .before .before .before .before .before .before .before .before .before .before .before .before .before .before .before .before .before .pre .room) n (c .if1 .left) in
     let next = stand-next (a .tag .now) (openedOn (a .starts .now) (a .ends .now)) (l .total) st (l .inv .1) (roomOf (l .numbers)) f in
-    let e = read-left (a .tag .now) (l .place) false true (l .starts) (l .ends) (l .recorded) (l .numbers) (l .inv .1 .sized) (b .0) (c .before .before .left .given .1) (b .1) (b .2) in
+    let e = read-left (a .tag .now) (l .place) false true (l .starts) (l .ends) (l .recorded) (l .numbers) (l .inv .1 .sized) b (c .before .before .left .given .1) in
     (search needs, rw (e, n, f) next, search needs, search needs)
 
 pub count-on-spec : {M : Type 1} → statement M

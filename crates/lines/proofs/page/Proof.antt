@@ -5,12 +5,11 @@ use mathlib.Core.List.{List}
 use native.Mathlib.Omega.{arith}
 use lib.ListN.{length, take}
 use lib.Seq.{length-take-le}
-use Rattle.scan.specs.Lists.{over}
 use Rattle.attributes.specs.Next.{lentState}
-use Rattle.batch.specs.Batch.{readOf}
-use Rattle.lines.specs.Lines.{linesIn}
-use Rattle.lines.specs.Page.{answersIn, pageOf}
-use Rattle.lines.proofs.Batches.{read-many, read-fits, written-length, written-front}
+use Rattle.batch.specs.Batch.{Batched}
+use Rattle.lines.specs.Page.{answersIn}
+use Rattle.lines.proofs.Batches.{batch-sizes}
+use Rattle.lines.proofs.Pages.{page-is}
 use borrow.Author.Needs.{needs}
 use Rattle.lines.proofs.page.Statement.{statement}
 use Rattle.lines.proofs.page.Tie as tie
@@ -26,26 +25,26 @@ mul-to c =
     let a = c .before .before .before .before .before .before .before .before .before .before .before .before .before .before .before .before .args in
     let st = lentState (a .place) (a .html) (a .checks) (a .starts .now) (a .ends .now) (a .count) in
     let b = c .before .before .before .before .before .before .before .read-batch .ensures in
-    let n = c .answers .ensures ∙ ap answersIn (b .0) ∙ read-many (a .tag .now) st (a .numbers .now) in
-    omega (arith, read-fits (a .tag .now) st (a .numbers .now))
+    let n = c .answers .ensures ∙ ap (λ (x : Batched). answersIn (x .batch)) b in
+    omega (arith, batch-sizes (a .tag .now) st (a .numbers .now) .1)
 
 slice-reshare-prefix-put-lines : tie.Need-slice-reshare-prefix-put-lines
 slice-reshare-prefix-put-lines c =
     let a = c .before .before .before .before .before .before .before .before .before .before .before .before .before .before .before .before .args in
     let st = lentState (a .place) (a .html) (a .checks) (a .starts .now) (a .ends .now) (a .count) in
     let b = c .before .before .before .before .before .before .before .read-batch .ensures in
-    let n = c .answers .ensures ∙ ap answersIn (b .0) ∙ read-many (a .tag .now) st (a .numbers .now) in
-    let size = ap length (b .3) ∙ written-length (a .tag .now) st (a .numbers .now) in
-    omega (arith, read-fits (a .tag .now) st (a .numbers .now))
+    let n = c .answers .ensures ∙ ap (λ (x : Batched). answersIn (x .batch)) b in
+    let size = ap (λ (x : Batched). length (x .out)) b ∙ batch-sizes (a .tag .now) st (a .numbers .now) .0 in
+    omega (arith, batch-sizes (a .tag .now) st (a .numbers .now) .1)
 
 slice-aggregate-put-lines : tie.Need-slice-aggregate-put-lines
 slice-aggregate-put-lines c =
     let a = c .before .before .before .before .before .before .before .before .before .before .before .before .before .before .before .before .before .args in
     let st = lentState (a .place) (a .html) (a .checks) (a .starts .now) (a .ends .now) (a .count) in
     let b = c .before .before .before .before .before .before .before .before .read-batch .ensures in
-    let n = c .before .answers .ensures ∙ ap answersIn (b .0) ∙ read-many (a .tag .now) st (a .numbers .now) in
-    let size = ap length (b .3) ∙ written-length (a .tag .now) st (a .numbers .now) in
-    sym (length-take-le (5 * c .before .answers .result) _ (omega (arith, read-fits (a .tag .now) st (a .numbers .now))))
+    let n = c .before .answers .ensures ∙ ap (λ (x : Batched). answersIn (x .batch)) b in
+    let size = ap (λ (x : Batched). length (x .out)) b ∙ batch-sizes (a .tag .now) st (a .numbers .now) .0 in
+    sym (length-take-le (5 * c .before .answers .result) _ (omega (arith, batch-sizes (a .tag .now) st (a .numbers .now) .1)))
 
 put-lines-requires : tie.Need-put-lines-requires
 put-lines-requires c κs = search needs
@@ -63,15 +62,10 @@ same-length-4 : tie.Need-same-length-4
 same-length-4 c = search needs
 
 returns : tie.Need-returns
-unfolding pageOf
 returns c =
     let a = c .before .before .before .before .before .before .before .before .before .before .before .before .before .before .before .before .before .before .before .before .before .args in
     let st = lentState (a .place) (a .html) (a .checks) (a .starts .now) (a .ends .now) (a .count) in
-    let b = c .before .before .before .before .before .before .before .before .before .before .before .before .read-batch .ensures in
-    let n = c .before .before .before .before .before .answers .ensures ∙ ap answersIn (b .0) ∙ read-many (a .tag .now) st (a .numbers .now) in
-    let e : 5 * c .before .before .before .before .before .answers .result ≡ 5 * length (readOf (a .tag .now) st (a .numbers .now)) = rw n in
-    let t = ap (take (5 * c .before .before .before .before .before .answers .result)) (b .3) ∙ written-front (a .tag .now) st (a .numbers .now) (5 * c .before .before .before .before .before .answers .result) e in
-    (b .0, c .before .before .put-lines .ensures .0 ∙ ap (λ (l : List ℕ). length (linesIn l (a .out .now))) t, b .1, b .2, b .3, c .before .before .put-lines .ensures .1 ∙ ap (λ (l : List ℕ). over (a .out .now) 0 (linesIn l (a .out .now))) t)
+    page-is (a .tag .now) st (a .numbers .now) (a .out .now) _ _ _ _ _ _ _ (c .before .before .before .before .before .before .before .before .before .before .before .before .read-batch .ensures) (c .before .before .before .before .before .answers .ensures) (c .before .before .put-lines .ensures .0) (c .before .before .put-lines .ensures .1)
 
 pub page-spec : {M : Type 1} → statement M
 page-spec =

@@ -10,7 +10,7 @@ use borrow.Author.Tests.{not-true, not-false}
 use Rattle.attributes.proofs.Good.{Sized}
 use Rattle.attributes.specs.Next.{lentState}
 use Rattle.batch.specs.Batch.{leftOf, roomOf}
-use Rattle.lines.proofs.Batches.{never-wrong, read-count, read-left, left-sized}
+use Rattle.lines.proofs.Batches.{never-wrong, read-count, read-left, read-text, left-sized}
 use Rattle.tags_replay.specs.Replay.{agreesWith, openedOn}
 use Rattle.tags_replay.proofs.Turns.{too-many, differs, last-is, goes-on, compared, few, filled, room-some, count-same, rest-on, in-room, enough}
 use Rattle.tags_replay.proofs.agrees_on.Statement.{statement}
@@ -50,7 +50,7 @@ same-length c =
     let l = c .before .before .before .before .before .before .before .before .before .before .before .before .loop in
     let st = lentState (l .place) (a .html) (a .checks) (l .starts) (l .ends) (l .keys) in
     let b = c .before .before .before .before .before .before .before .before .read-batch .ensures in
-    absurd (never-wrong (a .tag .now) (l .place) (a .html) (a .checks) (l .starts) (l .ends) (l .keys) (l .out) (l .inv .1) (b .0) (c .enum-told .given .1))
+    absurd (never-wrong (a .tag .now) (l .place) (a .html) (a .checks) (l .starts) (l .ends) (l .keys) (l .out) (l .inv .1) b (c .enum-told .given .1))
 
 same-length-2 : tie.Need-same-length-2 Inv-loop μ-loop
 same-length-2 c =
@@ -58,7 +58,7 @@ same-length-2 c =
     let l = c .before .before .before .before .before .before .before .before .before .before .before .before .loop in
     let st = lentState (l .place) (a .html) (a .checks) (l .starts) (l .ends) (l .keys) in
     let b = c .before .before .before .before .before .before .before .before .read-batch .ensures in
-    absurd (never-wrong (a .tag .now) (l .place) (a .html) (a .checks) (l .starts) (l .ends) (l .keys) (l .out) (l .inv .1) (b .0) (c .enum-told .given .1))
+    absurd (never-wrong (a .tag .now) (l .place) (a .html) (a .checks) (l .starts) (l .ends) (l .keys) (l .out) (l .inv .1) b (c .enum-told .given .1))
 
 same-length-3 : tie.Need-same-length-3 Inv-loop μ-loop
 same-length-3 c =
@@ -66,7 +66,7 @@ same-length-3 c =
     let l = c .before .before .before .before .before .before .before .before .before .before .before .before .loop in
     let st = lentState (l .place) (a .html) (a .checks) (l .starts) (l .ends) (l .keys) in
     let b = c .before .before .before .before .before .before .before .before .read-batch .ensures in
-    absurd (never-wrong (a .tag .now) (l .place) (a .html) (a .checks) (l .starts) (l .ends) (l .keys) (l .out) (l .inv .1) (b .0) (c .enum-told .given .1))
+    absurd (never-wrong (a .tag .now) (l .place) (a .html) (a .checks) (l .starts) (l .ends) (l .keys) (l .out) (l .inv .1) b (c .enum-told .given .1))
 
 returns : tie.Need-returns Inv-loop μ-loop
 returns c =
@@ -74,7 +74,7 @@ returns c =
     let l = c .before .before .before .before .before .before .before .before .before .before .before .before .loop in
     let st = lentState (l .place) (a .html) (a .checks) (l .starts) (l .ends) (l .keys) in
     let b = c .before .before .before .before .before .before .before .before .read-batch .ensures in
-    absurd (never-wrong (a .tag .now) (l .place) (a .html) (a .checks) (l .starts) (l .ends) (l .keys) (l .out) (l .inv .1) (b .0) (c .enum-told .given .1))
+    absurd (never-wrong (a .tag .now) (l .place) (a .html) (a .checks) (l .starts) (l .ends) (l .keys) (l .out) (l .inv .1) b (c .enum-told .given .1))
 
 sub-if1 : tie.Need-sub-if1 Inv-loop μ-loop
 sub-if1 c = search needs
@@ -95,7 +95,7 @@ returns-2 c =
     let l = c .before .before .before .before .before .before .before .before .before .before .before .before .before .before .loop in
     let st = lentState (l .place) (a .html) (a .checks) (l .starts) (l .ends) (l .keys) in
     let b = c .before .before .before .before .before .before .before .before .before .before .read-batch .ensures in
-    let n = read-count (a .tag .now) (l .place) (a .html) (a .checks) (l .starts) (l .ends) (l .keys) (l .out) (l .inv .1) (b .0) (c .before .before .left .given .1) in
+    let n = read-count (a .tag .now) (l .place) (a .html) (a .checks) (l .starts) (l .ends) (l .keys) (l .out) (l .inv .1) b (c .before .before .left .given .1) in
     too-many (a .tag .now) st (l .inv .1) (roomOf (l .out)) (a .answers - l .total) (drop (10 * l .total) (a .recorded .now)) (omega arith) ∙ sym (l .inv .2)
 
 mul-from : tie.Need-mul-from Inv-loop μ-loop
@@ -110,8 +110,8 @@ slice-reshare-prefix-same-numbers c =
     let l = c .before .before .before .before .before .before .before .before .before .before .before .before .before .before .loop in
     let st = lentState (l .place) (a .html) (a .checks) (l .starts) (l .ends) (l .keys) in
     let b = c .before .before .before .before .before .before .before .before .before .before .read-batch .ensures in
-    let n = read-count (a .tag .now) (l .place) (a .html) (a .checks) (l .starts) (l .ends) (l .keys) (l .out) (l .inv .1) (b .0) (c .before .before .left .given .1) in
-    in-room (a .tag .now) st (l .out) _ n (b .3)
+    let n = read-count (a .tag .now) (l .place) (a .html) (a .checks) (l .starts) (l .ends) (l .keys) (l .out) (l .inv .1) b (c .before .before .left .given .1) in
+    in-room (a .tag .now) st (l .out) _ n (read-text (a .tag .now) (l .place) (a .html) (a .checks) (l .starts) (l .ends) (l .keys) (l .out) (l .inv .1) b)
 
 slice-aggregate-same-numbers : tie.Need-slice-aggregate-same-numbers Inv-loop μ-loop
 slice-aggregate-same-numbers c =
@@ -119,8 +119,8 @@ slice-aggregate-same-numbers c =
     let l = c .before .before .before .before .before .before .before .before .before .before .before .before .before .before .before .loop in
     let st = lentState (l .place) (a .html) (a .checks) (l .starts) (l .ends) (l .keys) in
     let b = c .before .before .before .before .before .before .before .before .before .before .before .read-batch .ensures in
-    let n = read-count (a .tag .now) (l .place) (a .html) (a .checks) (l .starts) (l .ends) (l .keys) (l .out) (l .inv .1) (b .0) (c .before .before .before .left .given .1) in
-    sym (length-take-le _ _ (in-room (a .tag .now) st (l .out) _ n (b .3)))
+    let n = read-count (a .tag .now) (l .place) (a .html) (a .checks) (l .starts) (l .ends) (l .keys) (l .out) (l .inv .1) b (c .before .before .before .left .given .1) in
+    sym (length-take-le _ _ (in-room (a .tag .now) st (l .out) _ n (read-text (a .tag .now) (l .place) (a .html) (a .checks) (l .starts) (l .ends) (l .keys) (l .out) (l .inv .1) b)))
 
 sub-same-numbers : tie.Need-sub-same-numbers Inv-loop μ-loop
 sub-same-numbers c = search needs
@@ -150,8 +150,8 @@ returns-3 c =
     let l = c .before .before .before .before .before .before .before .before .before .before .before .before .before .before .before .before .before .before .loop in
     let st = lentState (l .place) (a .html) (a .checks) (l .starts) (l .ends) (l .keys) in
     let b = c .before .before .before .before .before .before .before .before .before .before .before .before .before .before .read-batch .ensures in
-    let n = read-count (a .tag .now) (l .place) (a .html) (a .checks) (l .starts) (l .ends) (l .keys) (l .out) (l .inv .1) (b .0) (c .before .before .before .before .before .before .left .given .1) in
-    let same = compared (a .tag .now) st (l .out) (a .recorded .now) (10 * l .total) (l .inv .1) n (b .3) (c .before .same-numbers .ensures) in
+    let n = read-count (a .tag .now) (l .place) (a .html) (a .checks) (l .starts) (l .ends) (l .keys) (l .out) (l .inv .1) b (c .before .before .before .before .before .before .left .given .1) in
+    let same = compared (a .tag .now) st (l .out) (a .recorded .now) (10 * l .total) n (read-text (a .tag .now) (l .place) (a .html) (a .checks) (l .starts) (l .ends) (l .keys) (l .out) (l .inv .1) b) (c .before .same-numbers .ensures) in
     differs (a .tag .now) st (l .inv .1) (roomOf (l .out)) (a .answers - l .total) (drop (10 * l .total) (a .recorded .now)) (omega arith) (same ∙ not-true _ (c .if2 .taken)) ∙ sym (l .inv .2)
 
 add-result : tie.Need-add-result Inv-loop μ-loop
@@ -173,9 +173,9 @@ returns-4 c =
     let l = c .before .before .before .before .before .before .before .before .before .before .before .before .before .before .before .before .before .before .before .loop in
     let st = lentState (l .place) (a .html) (a .checks) (l .starts) (l .ends) (l .keys) in
     let b = c .before .before .before .before .before .before .before .before .before .before .before .before .before .before .before .read-batch .ensures in
-    let n = read-count (a .tag .now) (l .place) (a .html) (a .checks) (l .starts) (l .ends) (l .keys) (l .out) (l .inv .1) (b .0) (c .before .before .before .before .before .before .before .left .given .1) in
-    let same = compared (a .tag .now) st (l .out) (a .recorded .now) (10 * l .total) (l .inv .1) n (b .3) (c .before .before .same-numbers .ensures) in
-    count-same _ _ _ n (l .inv .0) ∙ last-is (a .tag .now) st (l .inv .1) (roomOf (l .out)) (a .answers - l .total) (drop (10 * l .total) (a .recorded .now)) (omega arith) (same ∙ not-false _ (c .before .if2 .left)) (few (a .tag .now) st (l .out) _ n (b .3) (c .if3 .taken)) ∙ sym (l .inv .2)
+    let n = read-count (a .tag .now) (l .place) (a .html) (a .checks) (l .starts) (l .ends) (l .keys) (l .out) (l .inv .1) b (c .before .before .before .before .before .before .before .left .given .1) in
+    let same = compared (a .tag .now) st (l .out) (a .recorded .now) (10 * l .total) n (read-text (a .tag .now) (l .place) (a .html) (a .checks) (l .starts) (l .ends) (l .keys) (l .out) (l .inv .1) b) (c .before .before .same-numbers .ensures) in
+    count-same _ _ _ n (l .inv .0) ∙ last-is (a .tag .now) st (l .inv .1) (roomOf (l .out)) (a .answers - l .total) (drop (10 * l .total) (a .recorded .now)) (omega arith) (same ∙ not-false _ (c .before .if2 .left)) (few (a .tag .now) st (l .out) _ n (read-text (a .tag .now) (l .place) (a .html) (a .checks) (l .starts) (l .ends) (l .keys) (l .out) (l .inv .1) b) (c .if3 .taken)) ∙ sym (l .inv .2)
 
 add-total : tie.Need-add-total Inv-loop μ-loop
 add-total c = search needs
@@ -186,8 +186,8 @@ loop-less c =
     let l = c .before .before .before .before .before .before .before .before .before .before .before .before .before .before .before .before .before .before .before .loop in
     let st = lentState (l .place) (a .html) (a .checks) (l .starts) (l .ends) (l .keys) in
     let b = c .before .before .before .before .before .before .before .before .before .before .before .before .before .before .before .read-batch .ensures in
-    let n = read-count (a .tag .now) (l .place) (a .html) (a .checks) (l .starts) (l .ends) (l .keys) (l .out) (l .inv .1) (b .0) (c .before .before .before .before .before .before .before .left .given .1) in
-    omega (arith, filled (a .tag .now) st (l .out) _ n (b .3) (c .if3 .left), room-some (l .out) (a .out .now) (l .inv .3) (c .before .before .before .before .before .before .before .before .before .before .before .before .before .before .before .before .before .before .before .before .before .before .before .before .before .pre .room))
+    let n = read-count (a .tag .now) (l .place) (a .html) (a .checks) (l .starts) (l .ends) (l .keys) (l .out) (l .inv .1) b (c .before .before .before .before .before .before .before .left .given .1) in
+    omega (arith, filled (a .tag .now) st (l .out) _ n (read-text (a .tag .now) (l .place) (a .html) (a .checks) (l .starts) (l .ends) (l .keys) (l .out) (l .inv .1) b) (c .if3 .left), room-some (l .out) (a .out .now) (l .inv .3) (c .before .before .before .before .before .before .before .before .before .before .before .before .before .before .before .before .before .before .before .before .before .before .before .before .before .pre .room))
 
 loop-again : tie.Need-loop-again Inv-loop μ-loop
 loop-again c =
@@ -195,10 +195,10 @@ loop-again c =
     let l = c .before .before .before .before .before .before .before .before .before .before .before .before .before .before .before .before .before .before .before .loop in
     let st = lentState (l .place) (a .html) (a .checks) (l .starts) (l .ends) (l .keys) in
     let b = c .before .before .before .before .before .before .before .before .before .before .before .before .before .before .before .read-batch .ensures in
-    let n = read-count (a .tag .now) (l .place) (a .html) (a .checks) (l .starts) (l .ends) (l .keys) (l .out) (l .inv .1) (b .0) (c .before .before .before .before .before .before .before .left .given .1) in
-    let same = compared (a .tag .now) st (l .out) (a .recorded .now) (10 * l .total) (l .inv .1) n (b .3) (c .before .before .same-numbers .ensures) in
-    let f = filled (a .tag .now) st (l .out) _ n (b .3) (c .if3 .left) in
-    let e = read-left (a .tag .now) (l .place) (a .html) (a .checks) (l .starts) (l .ends) (l .keys) (l .out) (l .inv .1) (b .0) (c .before .before .before .before .before .before .before .left .given .1) (b .1) (b .2) in
+    let n = read-count (a .tag .now) (l .place) (a .html) (a .checks) (l .starts) (l .ends) (l .keys) (l .out) (l .inv .1) b (c .before .before .before .before .before .before .before .left .given .1) in
+    let same = compared (a .tag .now) st (l .out) (a .recorded .now) (10 * l .total) n (read-text (a .tag .now) (l .place) (a .html) (a .checks) (l .starts) (l .ends) (l .keys) (l .out) (l .inv .1) b) (c .before .before .same-numbers .ensures) in
+    let f = filled (a .tag .now) st (l .out) _ n (read-text (a .tag .now) (l .place) (a .html) (a .checks) (l .starts) (l .ends) (l .keys) (l .out) (l .inv .1) b) (c .if3 .left) in
+    let e = read-left (a .tag .now) (l .place) (a .html) (a .checks) (l .starts) (l .ends) (l .keys) (l .out) (l .inv .1) b (c .before .before .before .before .before .before .before .left .given .1) in
     let on = goes-on (a .tag .now) st (l .inv .1) (roomOf (l .out)) (a .answers - l .total) (drop (10 * l .total) (a .recorded .now)) (omega arith) (same ∙ not-false _ (c .before .if2 .left)) f in
     (omega arith, rw e (left-sized (roomOf (l .out)) (a .tag .now) st (l .inv .1)), l .inv .2 ∙ on ∙ rw (e, ← n) (rest-on (a .tag .now) (leftOf (roomOf (l .out)) (a .tag .now) st) (a .answers) (l .total) _ (a .recorded .now)), search needs, search needs, search needs)
 
