@@ -237,20 +237,23 @@ impl<T: Kept> IterState<T> {
 
     #[inline]
     fn next(&mut self, tag: &[u8]) -> Option<AttrResult<Range<usize>>> {
-        if self.taken == self.kept.ahead().filled() {
-            if self.ended {
-                return None;
-            }
-            let read = self.kept.read(tag, self.html, self.check_duplicates, BATCH);
-            self.taken = 0;
-            self.ended = read < BATCH;
-            if read == 0 {
-                return None;
-            }
+        if self.taken == self.kept.ahead().filled() && !self.read(tag) {
+            return None;
         }
         let answer = self.kept.ahead().answer(self.taken);
         self.taken += 1;
         Some(answered(answer))
+    }
+
+    /// Reads on; whether there is an answer more. A call of its own, so that what takes answers is short.
+    fn read(&mut self, tag: &[u8]) -> bool {
+        if self.ended {
+            return false;
+        }
+        let read = self.kept.read(tag, self.html, self.check_duplicates, BATCH);
+        self.taken = 0;
+        self.ended = read < BATCH;
+        read > 0
     }
 
     /// The search goes on behind the answers that were taken: those read ahead are not among them.
