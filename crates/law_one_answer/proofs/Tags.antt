@@ -17,8 +17,8 @@ use Rattle.attributes.specs.Lent.{Taken, Took, Short, taken}
 use Rattle.attributes.specs.declared.Outcome.{Outcome}
 use Rattle.attributes.specs.declared.Stepped.{Stepped}
 use Rattle.attributes.specs.declared.Stepped.the-variants.{Made, LendMore}
-use Rattle.batch.specs.declared.Five.{Five}
 use Rattle.batch.specs.Batch.{Batched}
+use Rattle.batch.specs.declared.Five.{Five}
 use Rattle.law_one_answer.proofs.Ends.{follows, together, alone, read-off}
 use Rattle.scan.proofs.is_whitespace as scan·is-whitespace
 use Rattle.scan.proofs.ends_key as scan·ends-key
@@ -64,8 +64,8 @@ use Rattle.attributes.proofs.IterState.next as attributes·IterState·next
 use Rattle.parts.proofs.key_part as parts·key-part
 use Rattle.parts.proofs.value_part as parts·value-part
 use Rattle.parts.proofs.as_bool as parts·as-bool
-use Rattle.batch.proofs.numbers as batch·numbers
 use Rattle.batch.proofs.Why.number as batch·Why·number
+use Rattle.batch.proofs.numbers as batch·numbers
 use Rattle.batch.proofs.read_batch as batch·read-batch
 use Rattle.held.proofs.new as held·new
 use Rattle.held.proofs.html as held·html
@@ -227,11 +227,11 @@ module _ {M : Type 1} (𝓤 : URA M) (H : Heap 𝓤) (A : Atoms 𝓤) (mem : Mem
   pub parts-as-bool : Settled 𝓤 parts·as-bool.ended (parts·as-bool.clauses 𝓤 H A mem run)
   parts-as-bool κs a g y z = alone 𝓤 _ y z refl
 
-  pub batch-numbers : Settled 𝓤 batch·numbers.ended (batch·numbers.clauses 𝓤 H A mem run)
-  batch-numbers κs a g y z = follows 𝓤 (λ p q. together y z (ap fiveOfList (p ∙ sym q)) refl)
-
   pub batch-Why-number : Settled 𝓤 batch·Why·number.ended (batch·Why·number.clauses 𝓤 H A mem run)
   batch-Why-number κs a g y z = alone 𝓤 _ y z refl
+
+  pub batch-numbers : Settled 𝓤 batch·numbers.ended (batch·numbers.clauses 𝓤 H A mem run)
+  batch-numbers κs a g y z = follows 𝓤 (λ p q. together y z (ap fiveOfList (p ∙ sym q)) refl)
 
   pub batch-read-batch : Settled 𝓤 batch·read-batch.ended (batch·read-batch.clauses 𝓤 H A mem run)
   batch-read-batch κs a g y z = read-off 𝓤 (λ (x : Batched). (x .batch, (tt, (x .starts, (x .ends, (tt, (tt, (tt, (tt, (x .out, tt))))))))))
