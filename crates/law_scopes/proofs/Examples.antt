@@ -22,15 +22,15 @@ use Rattle.scope_table.specs.Table.{TEXT, RECORDS, LIMIT, headOf, resolverOf, i
 use Rattle.scope_table.specs.Answer.{changed}
 use Rattle.scope_table.specs.declared.NamespaceResolver.{NamespaceResolver}
 use Rattle.scope_table.specs.declared.NamespaceResult.the-variants.{Done, InvalidXmlnsPrefixBind, BindingTableFull, TextFull, BadResolver, LendMore, WrongLength}
-use Rattle.scope_change.specs.Change.{whole, appendOf}
-use Rattle.scope_declare.specs.Declare.{namedOf, judgeOf, addOf, popOf}
+use Rattle.scope_declare.specs.declared.Judged.the-variants.{Bind}
+use Rattle.scope_declare.specs.Declare.{wholly, namedOf, judgeOf, addOf, popOf}
 use Rattle.scope_push.specs.Push.{declarationOf, declarationThen, declarationsOf, tagAnswers, pushOf}
 use Rattle.law_scopes.specs.Calls.{Call, add, push, pop, setLimit, callOf, testsForm, leftBy, answersBy}
 use Rattle.law_scopes.specs.Scopes.{Made, made, Scopes, scopes, Told, told, none, sizeOf, roomFor, bindIn, settleIn, declareIn, declareAllIn, keeps, upTo, levelIn, callIn, standing, answersIn}
 use Rattle.law_scopes.specs.Made.{madeAt, seen}
-use Rattle.law_scopes.specs.Promises.{PushPopReturns, ValidStays, ReachedValid, BadStays, BadOnly, SizedStays, FullNeverLends, EighteenExactly, NineteenExactly, ScopesFollow, BuiltInsStand, ScopesDetermine, ScopeSums, AnswersFollow}
+use Rattle.law_scopes.specs.Promises.{PushPopReturns, ValidStays, ReachedValid, BadStays, BadOnly, SizedStays, NeverLends, EighteenExactly, NineteenExactly, ScopesFollow, BuiltInsStand, ScopesDetermine, ScopeSums, AnswersFollow}
 use Rattle.law_scopes.proofs.Valid.{fresh-proper, valid-stays, reached-valid}
-use Rattle.law_scopes.proofs.Twenty.{bad-stays, bad-only, sized-stays, full-never-lends}
+use Rattle.law_scopes.proofs.Twenty.{bad-stays, bad-only, sized-stays, never-lends}
 use Rattle.law_scopes.proofs.BuiltIn.{built-ins-stand}
 use Rattle.law_scopes.proofs.Determine.{scopes-determine}
 use Rattle.law_scopes.proofs.Follow.{scopes-follow}
@@ -88,8 +88,8 @@ unfolding SizedStays callOf
 sized-stays-instance = sized-stays freshOf (fresh-proper .sized) pop .text
 
 pub never-lends-instance : (pushOf innerTag 0 freshOf .answer ≡ LendMore → ⊥) × (pushOf innerTag 0 freshOf .answer ≡ WrongLength → ⊥)
-unfolding FullNeverLends callOf
-never-lends-instance = full-never-lends freshOf (push innerTag 0)
+unfolding NeverLends callOf
+never-lends-instance = never-lends freshOf (push innerTag 0)
 
 pub follow-instance : seen (pushOf outerTag 0 freshOf) ≡ told Done (scopes (outer []) 1 LIMIT)
 unfolding ScopesFollow callOf
@@ -130,6 +130,11 @@ pub bad-stays-instance : pushOf outerTag 0 empty ≡ changed BadResolver empty
 unfolding BadStays callOf testsForm validOf isTable isWithin opensBuiltIn
 bad-stays-instance = bad-stays empty refl (push outerTag 0) refl
 
+-- 12 to 15 let this prefix through, whole.
+p-binds : judgeOf Named (bytes "p") (bytes "v") (wholly (bytes "p") (bytes "v")) ≡ Bind 1
+unfolding judgeOf namedOf reservedBind isXml isXmlns isXmlUri isXmlnsUri xmlPrefix xmlnsPrefix xmlUri xmlnsUri sameBytes bytes bytesFrom
+p-binds = refl
+
 -- 18: with a limit of 2,000, 1,024 bindings of no bytes fill the records.
 
 abbrev one : Call
@@ -162,7 +167,7 @@ grown (suc n) t few within nothing =
 abbrev filling : List Call
 filling = setLimit 2000 ∷ replicate 1024 one
 
-pub eighteen-instance : appendOf whole (bytes "p") (bytes "v") (leftBy filling freshOf) .answer ≡ BindingTableFull
+pub eighteen-instance : addOf Named (bytes "p") (bytes "v") (leftBy filling freshOf) .answer ≡ BindingTableFull
 unfolding EighteenExactly ScopeSums ReachedValid standing callIn none sizeOf
 eighteen-instance =
     let x = leftBy filling freshOf in
@@ -170,7 +175,7 @@ eighteen-instance =
     let g = grown 1024 (scopes [] 0 2000) (omega arith) (omega arith) refl in
     let count : x .head .count ≡ RECORDS = s .records ∙ ap (λ (n : ℕ). 2 + n) (g .bound) in
     let limit : x .head .limit ≡ 2000 = s .limit ∙ g .limit in
-    eighteen-exactly x (bytes "p") (bytes "v") (reached-valid filling .valid) .1 (omega arith, count)
+    eighteen-exactly x (reached-valid filling .valid) Named (bytes "p") (bytes "v") 1 p-binds .1 (omega arith, count)
 
 -- 19: one value of 65,463 bytes, 73 being built in, fills the text.
 
@@ -181,7 +186,7 @@ long-in : (v : List ℕ) → length v ≡ 65463 → callIn (add Default [] v) no
 unfolding callIn declareIn settleIn judgeOf roomFor none sizeOf
 long-in v e = rw e
 
-pub nineteen-instance : appendOf whole (bytes "p") (bytes "v") (leftBy (longest ∷ []) freshOf) .answer ≡ TextFull
+pub nineteen-instance : addOf Named (bytes "p") (bytes "v") (leftBy (longest ∷ []) freshOf) .answer ≡ TextFull
 unfolding NineteenExactly ScopeSums ReachedValid standing bindIn none sizeOf bytes bytesFrom
 nineteen-instance =
     let x = leftBy (longest ∷ []) freshOf in
@@ -190,4 +195,4 @@ nineteen-instance =
     let used : x .head .used ≡ TEXT = s .text ∙ ap (λ (t : Scopes). 73 + sizeOf (t .bound)) left ∙ omega (arith, length-replicate {A = ℕ} 65463 0) in
     let count : x .head .count ≡ 3 = s .records ∙ ap (λ (t : Scopes). 2 + length (t .bound)) left in
     let limit : x .head .limit ≡ LIMIT = s .limit ∙ ap (λ (t : Scopes). t .limit) left in
-    nineteen-exactly x (bytes "p") (bytes "v") (reached-valid (longest ∷ []) .valid) .1 (omega arith, (omega arith, omega arith))
+    nineteen-exactly x (reached-valid (longest ∷ []) .valid) Named (bytes "p") (bytes "v") 1 p-binds .1 (omega arith, (omega arith, omega arith))

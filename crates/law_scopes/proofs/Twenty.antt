@@ -24,7 +24,7 @@ use Rattle.scope_declare.specs.Declare.{namedOf, judgeOf, settleOf, declareOf, 
 use Rattle.scope_push.specs.Push.{Declaration, declarationsOf, tagAnswers, thenOf, declareAll, raisedOf, pushOf}
 use Rattle.law_scopes.specs.Sized.{Sized}
 use Rattle.law_scopes.specs.Calls.{Call, add, push, pop, setLevel, setLimit, callOf, testsForm}
-use Rattle.law_scopes.specs.Promises.{ValidStays, BadStays, BadOnly, SizedStays, FullNeverLends}
+use Rattle.law_scopes.specs.Promises.{ValidStays, BadStays, BadOnly, SizedStays, NeverLends}
 use Rattle.law_scopes.proofs.Declared.{refusal}
 use Rattle.law_scopes.proofs.Valid.{limited-sized, valid-stays}
 
@@ -120,13 +120,13 @@ module _ (x : NamespaceResolver) where
     by true e = other-never (callOf c x) (call-other x e c)
     by false e = subst Never (sym (bad-stays x e c t)) bad-never
 
-pub full-never-lends : FullNeverLends
-unfolding FullNeverLends callOf testsForm Never Other changeNumbers
-full-never-lends x (add d p v) = tested-never x (add d p v) refl
-full-never-lends x (push s from) = tested-never x (push s from) refl
-full-never-lends x pop = tested-never x pop refl
-full-never-lends x (setLevel to h) = tested-never x (setLevel to h) refl
-full-never-lends x (setLimit limit) = other-never x (callOf (setLimit limit) x) refl
+pub never-lends : NeverLends
+unfolding NeverLends callOf testsForm Never Other changeNumbers
+never-lends x (add d p v) = tested-never x (add d p v) refl
+never-lends x (push s from) = tested-never x (push s from) refl
+never-lends x pop = tested-never x pop refl
+never-lends x (setLevel to h) = tested-never x (setLevel to h) refl
+never-lends x (setLimit limit) = other-never x (callOf (setLimit limit) x) refl
 
 -- The sizes.
 

@@ -1,17 +1,18 @@
 -- What is promised of calls one after another.
-use Prim.Native.Nat.{ℕ, _+_, _-_, _<_}
+use Prim.Native.Nat.{ℕ, _+_, _-_, _≤_, _<_}
 use mathlib.Core.Path.{_≡_}
 use mathlib.Core.Bool.{true, false}
 use mathlib.Core.List.{List}
 use mathlib.Core.Logic.{_↔_}
-use lib.ListN.{length}
+use lib.ListN.{length, take}
+use Rattle.name.specs.declared.Declares.{Declares}
 use Rattle.name.specs.Reserved.{xmlPrefix, xmlnsPrefix, xmlUri, xmlnsUri}
 use Rattle.scope_table.specs.Table.{TEXT, RECORDS, DEEPEST, validOf, freshOf}
 use Rattle.scope_table.specs.Answer.{changed}
 use Rattle.scope_table.specs.declared.NamespaceResolver.{NamespaceResolver}
-use Rattle.scope_table.specs.declared.NamespaceResult.the-variants.{Done, BindingTableFull, TextFull, BadResolver, LendMore, WrongLength}
-use Rattle.scope_change.specs.Change.{whole, appendOf}
-use Rattle.scope_declare.specs.Declare.{popOf}
+use Rattle.scope_table.specs.declared.NamespaceResult.the-variants.{Done, TooManyBindings, BindingTableFull, TextFull, BadResolver, LendMore, WrongLength}
+use Rattle.scope_declare.specs.Declare.{wholly, judgeOf, addOf, popOf}
+use Rattle.scope_declare.specs.declared.Judged.the-variants.{Bind}
 use Rattle.scope_push.specs.Push.{pushOf}
 use Rattle.law_scopes.specs.Sized.{Sized}
 use Rattle.law_scopes.specs.Calls.{Call, callOf, testsForm, leftBy, answersBy}
@@ -50,25 +51,33 @@ unfoldable pub SizedStays : Type 0
 SizedStays = (x : NamespaceResolver) → Sized x → (c : Call) → Sized (callOf c x .resolver)
 
 -- The two answers of lent memory, 98 and 99, are no call's on a resolver itself.
-unfoldable pub FullNeverLends : Type 0
-FullNeverLends =
+unfoldable pub NeverLends : Type 0
+NeverLends =
     (x : NamespaceResolver) (c : Call) → (callOf c x .answer ≡ LendMore → ⊥) × (callOf c x .answer ≡ WrongLength → ⊥)
 
--- On a resolver that 20 does not refuse, 18 comes exactly if it is its turn, so that the bindings are below the limit, and
--- all 1,026 records are in use.
+-- `add` on a resolver that 20 does not refuse, of a binding that 12 to 15 let through, under the first n bytes of the prefix:
+-- all of it, or none for a default. 16 comes next: exactly if the bindings, the built-ins not counted, have reached the limit.
+unfoldable pub SixteenExactly : Type 0
+SixteenExactly =
+    (x : NamespaceResolver) → validOf x ≡ true →
+    (d : Declares) (prefix value : List ℕ) (n : ℕ) → judgeOf d prefix value (wholly prefix value) ≡ Bind n →
+    addOf d prefix value x .answer ≡ TooManyBindings (x .head .limit) ↔ (x .head .limit ≤ x .head .count - 2)
+
+-- Where 16 does not come, 18 comes exactly if all 1,026 records are in use.
 unfoldable pub EighteenExactly : Type 0
 EighteenExactly =
-    (x : NamespaceResolver) (prefix value : List ℕ) → validOf x ≡ true →
-    appendOf whole prefix value x .answer ≡ BindingTableFull
-    ↔ ((x .head .count - 2 < x .head .limit) × (x .head .count ≡ RECORDS))
+    (x : NamespaceResolver) → validOf x ≡ true →
+    (d : Declares) (prefix value : List ℕ) (n : ℕ) → judgeOf d prefix value (wholly prefix value) ≡ Bind n →
+    addOf d prefix value x .answer ≡ BindingTableFull ↔ ((x .head .count - 2 < x .head .limit) × (x .head .count ≡ RECORDS))
 
--- 19 comes exactly if it is its turn, so that besides a record is free, and text used plus both lengths exceeds 65,536.
+-- Where neither comes, so that a record is free, 19 comes exactly if text used plus both lengths exceeds 65,536.
 unfoldable pub NineteenExactly : Type 0
 NineteenExactly =
-    (x : NamespaceResolver) (prefix value : List ℕ) → validOf x ≡ true →
-    appendOf whole prefix value x .answer ≡ TextFull
+    (x : NamespaceResolver) → validOf x ≡ true →
+    (d : Declares) (prefix value : List ℕ) (n : ℕ) → judgeOf d prefix value (wholly prefix value) ≡ Bind n →
+    addOf d prefix value x .answer ≡ TextFull
     ↔ ((x .head .count - 2 < x .head .limit)
-    × ((x .head .count < RECORDS) × (TEXT < x .head .used + (length prefix + length value))))
+    × ((x .head .count < RECORDS) × (TEXT < x .head .used + (length (take n prefix) + length value))))
 
 -- Each call does to a resolver what it does to the list of bindings that the resolver holds, with the same answer: `add`
 -- appends one, `push` those of the tag up to the first refusal, a level keeps those made at it or below.
