@@ -1,7 +1,7 @@
 -- Exactly when 16, 18 and 19 come: the three tests of a binding, one after the other, read off the answer. `add` comes to them
 -- where neither 20 nor 12 to 15 refuse.
 use Prim.Native.Nat.{ℕ, _+_, _-_, _≤_, _<_}
-use mathlib.Core.Path.{_≡_, refl, sym, ap, subst, _∙_}
+use mathlib.Core.Path.{_≡_, refl, sym, ap, _∙_}
 use mathlib.Core.Bool.{Bool, true, false, false≢true}
 use mathlib.Core.List.{List}
 use mathlib.Core.Logic.{_↔_}
@@ -15,7 +15,6 @@ use Rattle.scope_table.specs.Answer.{changeNumbers}
 use Rattle.scope_table.specs.declared.NamespaceResolver.{NamespaceResolver}
 use Rattle.scope_table.specs.declared.NamespaceResult.{NamespaceResult}
 use Rattle.scope_table.specs.declared.NamespaceResult.the-variants.{Done, TooManyBindings, BindingTableFull, TextFull}
-use Rattle.scope_table.specs.declared.Changed.{Changed}
 use Rattle.scope_change.specs.Change.{whole, refusalOf, appended, appendOf}
 use Rattle.scope_declare.specs.Declare.{wholly, judgeOf, settleOf, declareOf, addOf}
 use Rattle.scope_declare.specs.declared.Judged.the-variants.{Bind}

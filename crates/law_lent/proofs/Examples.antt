@@ -1,0 +1,141 @@
+-- The theorems at work on short memory: 16 numbers are the records of a tag with two declarations, and 76 bytes are its text
+-- with the built-ins' 73; 75 are one too few.
+use Prim.Native.Nat.{ℕ, _+_}
+use mathlib.Core.Path.{_≡_, refl, ap, _∙_}
+use mathlib.Core.Bool.{Bool, true, false}
+use mathlib.Core.List.{List, [], _∷_}
+use native.Mathlib.Omega.{arith}
+use lib.ListN.{length, replicate, length-replicate}
+use Rattle.scan.specs.Bytes.{bytes, bytesFrom}
+use Rattle.scope_table.specs.Table.{TEXT, NUMBERS, LIMIT, headOf, freshOf}
+use Rattle.scope_table.specs.Answer.{changed}
+use Rattle.scope_table.specs.Lent.{padTo, standsFor, holdsOf, fitsOf, Given, given, heldOf, lentOf, freshIn}
+use Rattle.scope_table.specs.declared.NamespaceResolver.{NamespaceResolver}
+use Rattle.scope_table.specs.declared.Changed.{Changed}
+use Rattle.scope_table.specs.declared.NamespaceResult.{NamespaceResult}
+use Rattle.scope_table.specs.declared.NamespaceResult.the-variants.{Done, LendMore}
+use Rattle.law_scopes.specs.Calls.{Call, push, pop, callOf, leftBy}
+use Rattle.law_scopes.specs.Scopes.{Made, made, scopes, Told, told, none, sizeOf, callIn, standing, answersIn}
+use Rattle.law_scopes.specs.Made.{seen}
+use Rattle.law_scopes.specs.Promises.{ScopesFollow, ScopeSums}
+use Rattle.law_scopes.proofs.Valid.{fresh-proper}
+use Rattle.law_scopes.proofs.Follow.{scopes-follow}
+use Rattle.law_scopes.proofs.Sums.{fresh-none, scope-sums}
+use Rattle.law_scopes.proofs.Examples.{history-example}
+use Rattle.law_lent.specs.Run.{nextLent, lentAnswers}
+use Rattle.law_lent.specs.Follows.{Left, Ran, LentRun, LentFresh, LentReached, LentPushPop, FullNeverLends, Longer, CallsAgain}
+use Rattle.law_lent.proofs.Held.{call-left, call-more}
+use Rattle.law_lent.proofs.Run.{lent-run, lent-fresh, lent-reached, lent-push-pop}
+use Rattle.law_lent.proofs.Full.{full-never-lends}
+use Rattle.law_lent.proofs.Again.{calls-again}
+
+abbrev opening : Call
+opening = push (bytes " xmlns=\"u\" xmlns:p=\"v\"") 0
+
+abbrev both : List Made
+both = made [] (bytes "u") 1 ∷ made (bytes "p") (bytes "v") 1 ∷ []
+
+-- what it is on the fresh resolver
+opened : callIn opening none ≡ told Done (scopes both 1 LIMIT)
+opened = history-example .4
+
+used-after : callOf opening freshOf .resolver .head .used ≡ 76
+unfolding leftBy standing ScopeSums sizeOf bytes bytesFrom
+used-after = scope-sums (opening ∷ []) .text ∙ ap (λ (t : Told). 73 + sizeOf (t .scopes .bound)) opened
+
+count-after : callOf opening freshOf .resolver .head .count ≡ 4
+unfolding leftBy standing ScopeSums
+count-after = scope-sums (opening ∷ []) .records ∙ ap (λ (t : Told). 2 + length (t .scopes .bound)) opened
+
+-- A fresh resolver in so many bytes.
+abbrev rows : List ℕ
+rows = replicate 16 0
+
+abbrev memory : ℕ → Given
+memory n = freshIn (replicate n 0) rows (headOf 0 0 0 0)
+
+abbrev Fresh : ℕ → Type 0
+Fresh n = Left (replicate n 0) rows (changed Done freshOf) (memory n)
+
+fresh-76 : Fresh 76
+unfolding LentFresh freshIn heldOf fitsOf holdsOf freshOf
+fresh-76 = lent-fresh (replicate 76 0) rows (headOf 0 0 0 0) refl
+
+fresh-75 : Fresh 75
+unfolding LentFresh freshIn heldOf fitsOf holdsOf freshOf
+fresh-75 = lent-fresh (replicate 75 0) rows (headOf 0 0 0 0) refl
+
+module _ (n : ℕ) (f : Fresh n) where
+  abbrev after : Changed
+  after = callOf opening (standsFor (memory n .text) (memory n .records) (memory n .head))
+
+  abbrev used-is : after .resolver .head .used ≡ 76
+  used-is = ap (λ (x : NamespaceResolver). callOf opening x .resolver .head .used) (f .kept .stands) ∙ used-after
+
+  abbrev count-is : after .resolver .head .count ≡ 4
+  count-is = ap (λ (x : NamespaceResolver). callOf opening x .resolver .head .count) (f .kept .stands) ∙ count-after
+
+  bytes-are : length (memory n .text) ≡ n
+  bytes-are = f .kept .text-length ∙ length-replicate {A = ℕ} n 0
+
+  -- whether the memory holds what the tag leaves
+  holds-is : (t : Bool) → fitsOf n 16 76 4 ≡ t → fitsOf (length (memory n .text)) (length (memory n .records)) (after .resolver .head .used) (after .resolver .head .count) ≡ t
+  holds-is t e =
+      let r : length (memory n .records) ≡ 16 = f .kept .records-length in
+      rw (used-is, count-is, bytes-are, r) e
+
+-- 76 bytes hold it
+held : Left (memory 76 .text) (memory 76 .records) (after 76 fresh-76) (nextLent opening (memory 76))
+unfolding nextLent fitsOf holdsOf
+held = call-left (memory 76 .text) (memory 76 .records) (memory 76 .head) (fresh-76 .kept .ready) opening (holds-is 76 fresh-76 true refl)
+
+answer-after : callOf opening freshOf .answer ≡ Done
+unfolding ScopesFollow seen
+answer-after = ap (λ (t : Told). t .answer) (scopes-follow freshOf fresh-proper opening ∙ ap (callIn opening) fresh-none ∙ opened)
+
+pub follows-instance : nextLent opening (memory 76) .answer ≡ Done
+follows-instance = held .answer ∙ ap (λ (x : NamespaceResolver). callOf opening x .answer) (fresh-76 .kept .stands) ∙ answer-after
+
+-- 75 do not, and stay as they were
+pub lends-instance : nextLent opening (memory 75) ≡ given LendMore (memory 75 .text) (memory 75 .records) (memory 75 .head)
+unfolding nextLent fitsOf holdsOf
+lends-instance = call-more (memory 75 .text) (memory 75 .records) (memory 75 .head) (fresh-75 .kept .ready) opening (holds-is 75 fresh-75 false refl)
+
+done-only : (a : NamespaceResult) → a ≡ Done → a ≡ LendMore → ⊥
+done-only a d e =
+    let z : _≡_ {A = ℕ} 0 1 = cc in
+    absurd (omega arith)
+
+fresh-level : memory 76 .head .level ≡ 0
+unfolding freshOf
+fresh-level = ap (λ (x : NamespaceResolver). x .head .level) (fresh-76 .kept .stands)
+
+pub push-pop-instance : nextLent pop (nextLent opening (memory 76)) ≡ given Done (memory 76 .text) (memory 76 .records) (memory 76 .head)
+unfolding LentPushPop nextLent callOf
+push-pop-instance =
+    lent-push-pop (memory 76 .text) (memory 76 .records) (memory 76 .head) (fresh-76 .kept .ready) (omega (arith, fresh-level))
+    (bytes " xmlns=\"u\" xmlns:p=\"v\"") 0 (done-only (nextLent opening (memory 76) .answer) follows-instance)
+
+pub reached-instance : lentAnswers (opening ∷ []) (memory 76) ≡ answersIn (opening ∷ []) none
+unfolding LentReached lentAnswers freshIn heldOf fitsOf holdsOf freshOf
+reached-instance = lent-reached (replicate 76 0) rows (headOf 0 0 0 0) refl (opening ∷ []) (done-only (nextLent opening (memory 76) .answer) follows-instance, _) .1
+
+-- the same call in a run, and the resolver that the memory stands for after it
+pub run-instance : Ran (opening ∷ []) (memory 76 .text) (memory 76 .records) (standsFor (memory 76 .text) (memory 76 .records) (memory 76 .head)) (given Done (memory 76 .text) (memory 76 .records) (memory 76 .head))
+unfolding LentRun lentAnswers nextLent
+run-instance = lent-run (memory 76 .text) (memory 76 .records) (memory 76 .head) (fresh-76 .kept .ready) (opening ∷ []) (done-only (nextLent opening (memory 76) .answer) follows-instance, _)
+
+-- one byte more for the 75: the call that asked for more is the one that the fresh resolver has
+pub again-instance : lentOf (callOf opening) (padTo 76 (memory 75 .text)) (padTo 16 (memory 75 .records)) (memory 75 .head) .answer ≡ Done
+unfolding CallsAgain fitsOf holdsOf
+again-instance =
+    let g = memory 75 in
+    let r : length (g .records) ≡ 16 = fresh-75 .kept .records-length in
+    let l : Longer (g .text) (g .records) 76 16 = record { bytes-least = omega (arith, bytes-are 75 fresh-75); bytes-most = omega arith; numbers-least = omega arith; numbers-most = omega arith } in
+    calls-again (g .text) (g .records) (g .head) (fresh-75 .kept .ready) 76 16 l opening .0 (rw (used-is 75 fresh-75, count-is 75 fresh-75)) .answer
+    ∙ ap (λ (x : NamespaceResolver). callOf opening x .answer) (fresh-75 .kept .stands) ∙ answer-after
+
+-- full size, and nothing of it a resolver
+pub full-instance : lentOf (callOf pop) (replicate TEXT 7) (replicate NUMBERS 7) (headOf 70000 5000 3 0) .answer ≡ LendMore → ⊥
+unfolding FullNeverLends
+full-instance = full-never-lends (replicate TEXT 7) (replicate NUMBERS 7) (headOf 70000 5000 3 0) (length-replicate {A = ℕ} TEXT 7) (length-replicate {A = ℕ} NUMBERS 7) pop .0

@@ -1,0 +1,5 @@
+pub mod Held
+pub mod Run
+pub mod Full
+pub mod Again
+pub mod Examples
