@@ -1,0 +1,5 @@
+pub mod Turns
+pub mod Lent
+pub mod Among
+pub mod Resolves
+pub mod Numbers

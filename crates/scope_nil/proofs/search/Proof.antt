@@ -1,0 +1,126 @@
+-- `scope_nil::search` meets its contract: the search from the start is the search from the iterator as it is now. The measure
+-- is what is left to read.
+use mathlib.Core.Path.{_≡_, refl, sym, ap, _∙_}
+use mathlib.Core.Bool.{true}
+use borrow.Author.Needs.{needs}
+use Rattle.attributes.specs.Next.{stateGood, lentState}
+use Rattle.attributes.specs.Run.{isEnd}
+use Rattle.attributes.proofs.Good.{Sized}
+use Rattle.attributes.proofs.Whole.{lent-step}
+use Rattle.scope_table.specs.Table.{resolverOf}
+use Rattle.scope_nil.specs.Nil.{searched}
+use Rattle.scope_nil.proofs.Turns.{unread, search-ends, search-yes, search-on, no-end, says-by, lent-ready, lent-good, lent-sized, lent-falls}
+use Rattle.scope_nil.proofs.search.Statement.{statement}
+use Rattle.scope_nil.proofs.search.Tie as tie
+
+abbrev Inv-loop : tie.InvT-loop
+Inv-loop tag starts₀ ends₀ text records head html checks stand₀ recorded₀ starts ends stand recorded =
+    (stateGood tag (lentState stand html checks starts ends recorded) ≡ true)
+    × Sized (lentState stand html checks starts ends recorded)
+    × (searched (resolverOf text records head) tag (lentState stand₀ html checks starts₀ ends₀ recorded₀)
+    ≡ searched (resolverOf text records head) tag (lentState stand html checks starts ends recorded))
+
+abbrev μ-loop : tie.MeasureT-loop
+μ-loop tag starts₀ ends₀ text records head html checks stand₀ recorded₀ starts ends stand recorded =
+    unread tag (lentState stand html checks starts ends recorded)
+
+loop-holds : tie.Need-loop-holds Inv-loop μ-loop
+loop-holds c =
+    let p = c .before .before .before .before .before .pre .0 in
+    (p .good, record { starts = p .starts; ends = p .ends }, refl)
+
+step-lent-requires : tie.Need-step-lent-requires Inv-loop μ-loop
+step-lent-requires c κs =
+    let a = c .before .before .before .before .before .before .before .before .args in
+    let l = c .before .before .loop in
+    lent-ready (a .tag .now) (l .stand) (a .at .html) (a .at .checks) (l .starts) (l .ends) (l .recorded) (l .inv .1) (l .inv .0)
+
+enum-told : tie.Need-enum-told Inv-loop μ-loop
+enum-told c = search needs
+
+same-length : tie.Need-same-length Inv-loop μ-loop
+same-length c =
+    let a = c .before .before .before .before .before .before .before .before .before .before .before .before .before .before .before .args in
+    let l = c .before .before .before .before .before .before .before .before .before .loop in
+    let r = c .before .before .before .before .before .before .step-lent in
+    lent-sized (a .tag .now) (l .stand) (a .at .html) (a .at .checks) (l .starts) (l .ends) (l .recorded) (l .inv .1) (l .inv .0) (r .result) (r .last .1 .0) (r .last .1 .1 .0) (r .ensures) .starts ∙ sym (c .before .before .before .before .before .before .before .before .before .before .before .before .before .before .before .pre .0 .starts)
+
+same-length-2 : tie.Need-same-length-2 Inv-loop μ-loop
+same-length-2 c =
+    let a = c .before .before .before .before .before .before .before .before .before .before .before .before .before .before .before .args in
+    let l = c .before .before .before .before .before .before .before .before .before .loop in
+    let r = c .before .before .before .before .before .before .step-lent in
+    lent-sized (a .tag .now) (l .stand) (a .at .html) (a .at .checks) (l .starts) (l .ends) (l .recorded) (l .inv .1) (l .inv .0) (r .result) (r .last .1 .0) (r .last .1 .1 .0) (r .ensures) .ends ∙ sym (c .before .before .before .before .before .before .before .before .before .before .before .before .before .before .before .pre .0 .ends)
+
+returns : tie.Need-returns Inv-loop μ-loop
+unfolding isEnd
+returns c =
+    let a = c .before .before .before .before .before .before .before .before .before .before .before .before .before .before .before .args in
+    let l = c .before .before .before .before .before .before .before .before .before .loop in
+    let r = c .before .before .before .before .before .before .step-lent in
+    search-ends (resolverOf (a .text .now) (a .records .now) (a .head)) (a .tag .now) (lentState (l .stand) (a .at .html) (a .at .checks) (l .starts) (l .ends) (l .recorded)) (l .inv .1) (l .inv .0) (r .result .answer) (lentState (r .result .place) (a .at .html) (a .at .checks) (r .last .1 .0) (r .last .1 .1 .0) (r .result .count)) (lent-step (a .tag .now) (l .stand) (a .at .html) (a .at .checks) (l .starts) (l .ends) (l .recorded) (l .inv .0) (r .result) (r .last .1 .0) (r .last .1 .1 .0) (r .ensures)) (ap isEnd (c .enum-told .given .1)) ∙ sym (l .inv .2)
+
+key-part-requires : tie.Need-key-part-requires Inv-loop μ-loop
+key-part-requires c κs = search needs
+
+value-part-requires : tie.Need-value-part-requires Inv-loop μ-loop
+value-part-requires c κs = search needs
+
+is-nil-requires : tie.Need-is-nil-requires Inv-loop μ-loop
+is-nil-requires c κs = c .before .before .before .before .before .before .before .before .before .before .before .before .before .before .before .before .pre .1
+
+same-length-3 : tie.Need-same-length-3 Inv-loop μ-loop
+same-length-3 c =
+    let a = c .before .before .before .before .before .before .before .before .before .before .before .before .before .before .before .before .before .before .args in
+    let l = c .before .before .before .before .before .before .before .before .before .before .before .before .loop in
+    let r = c .before .before .before .before .before .before .before .before .before .step-lent in
+    lent-sized (a .tag .now) (l .stand) (a .at .html) (a .at .checks) (l .starts) (l .ends) (l .recorded) (l .inv .1) (l .inv .0) (r .result) (r .last .1 .0) (r .last .1 .1 .0) (r .ensures) .starts ∙ sym (c .before .before .before .before .before .before .before .before .before .before .before .before .before .before .before .before .before .before .pre .0 .starts)
+
+same-length-4 : tie.Need-same-length-4 Inv-loop μ-loop
+same-length-4 c =
+    let a = c .before .before .before .before .before .before .before .before .before .before .before .before .before .before .before .before .before .before .args in
+    let l = c .before .before .before .before .before .before .before .before .before .before .before .before .loop in
+    let r = c .before .before .before .before .before .before .before .before .before .step-lent in
+    lent-sized (a .tag .now) (l .stand) (a .at .html) (a .at .checks) (l .starts) (l .ends) (l .recorded) (l .inv .1) (l .inv .0) (r .result) (r .last .1 .0) (r .last .1 .1 .0) (r .ensures) .ends ∙ sym (c .before .before .before .before .before .before .before .before .before .before .before .before .before .before .before .before .before .before .pre .0 .ends)
+
+returns-2 : tie.Need-returns-2 Inv-loop μ-loop
+returns-2 c =
+    let a = c .before .before .before .before .before .before .before .before .before .before .before .before .before .before .before .before .before .before .args in
+    let l = c .before .before .before .before .before .before .before .before .before .before .before .before .loop in
+    let r = c .before .before .before .before .before .before .before .before .before .step-lent in
+    search-yes (resolverOf (a .text .now) (a .records .now) (a .head)) (a .tag .now) (lentState (l .stand) (a .at .html) (a .at .checks) (l .starts) (l .ends) (l .recorded)) (l .inv .1) (l .inv .0) (r .result .answer) (lentState (r .result .place) (a .at .html) (a .at .checks) (r .last .1 .0) (r .last .1 .1 .0) (r .result .count)) (lent-step (a .tag .now) (l .stand) (a .at .html) (a .at .checks) (l .starts) (l .ends) (l .recorded) (l .inv .0) (r .result) (r .last .1 .0) (r .last .1 .1 .0) (r .ensures)) (no-end (r .result .answer) (c .before .before .before .before .match .keys2)) (says-by (resolverOf (a .text .now) (a .records .now) (a .head)) (a .tag .now) (r .result .answer) _ _ (c .before .is-nil .result) _ (c .before .before .before .key-part .ensures) (c .before .before .value-part .ensures) (c .before .is-nil .ensures) (c .if1 .taken)) ∙ sym (l .inv .2)
+
+loop-less : tie.Need-loop-less Inv-loop μ-loop
+loop-less c =
+    let a = c .before .before .before .before .before .before .before .before .before .before .before .before .before .before .before .before .before .before .args in
+    let l = c .before .before .before .before .before .before .before .before .before .before .before .before .loop in
+    let r = c .before .before .before .before .before .before .before .before .before .step-lent in
+    lent-falls (a .tag .now) (l .stand) (a .at .html) (a .at .checks) (l .starts) (l .ends) (l .recorded) (l .inv .1) (l .inv .0) (r .result) (r .last .1 .0) (r .last .1 .1 .0) (r .ensures) (no-end (r .result .answer) (c .before .before .before .before .match .keys2))
+
+loop-again : tie.Need-loop-again Inv-loop μ-loop
+loop-again c =
+    let a = c .before .before .before .before .before .before .before .before .before .before .before .before .before .before .before .before .before .before .args in
+    let l = c .before .before .before .before .before .before .before .before .before .before .before .before .loop in
+    let r = c .before .before .before .before .before .before .before .before .before .step-lent in
+    (lent-good (a .tag .now) (l .stand) (a .at .html) (a .at .checks) (l .starts) (l .ends) (l .recorded) (l .inv .1) (l .inv .0) (r .result) (r .last .1 .0) (r .last .1 .1 .0) (r .ensures), lent-sized (a .tag .now) (l .stand) (a .at .html) (a .at .checks) (l .starts) (l .ends) (l .recorded) (l .inv .1) (l .inv .0) (r .result) (r .last .1 .0) (r .last .1 .1 .0) (r .ensures), l .inv .2 ∙ search-on (resolverOf (a .text .now) (a .records .now) (a .head)) (a .tag .now) (lentState (l .stand) (a .at .html) (a .at .checks) (l .starts) (l .ends) (l .recorded)) (l .inv .1) (l .inv .0) (r .result .answer) (lentState (r .result .place) (a .at .html) (a .at .checks) (r .last .1 .0) (r .last .1 .1 .0) (r .result .count)) (lent-step (a .tag .now) (l .stand) (a .at .html) (a .at .checks) (l .starts) (l .ends) (l .recorded) (l .inv .0) (r .result) (r .last .1 .0) (r .last .1 .1 .0) (r .ensures)) (no-end (r .result .answer) (c .before .before .before .before .match .keys2)) (says-by (resolverOf (a .text .now) (a .records .now) (a .head)) (a .tag .now) (r .result .answer) _ _ (c .before .is-nil .result) _ (c .before .before .before .key-part .ensures) (c .before .before .value-part .ensures) (c .before .is-nil .ensures) (c .if1 .left)))
+
+pub search-spec : {M : Type 1} → statement M
+search-spec =
+    tie.close
+    (tie.spec
+    Inv-loop
+    μ-loop
+    loop-holds
+    step-lent-requires
+    enum-told
+    same-length
+    same-length-2
+    returns
+    key-part-requires
+    value-part-requires
+    is-nil-requires
+    same-length-3
+    same-length-4
+    returns-2
+    loop-less
+    loop-again)

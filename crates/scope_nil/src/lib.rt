@@ -1,0 +1,267 @@
+// What stands on both the iterator and the resolver: `Attributes::has_nil`, src/events/attributes.rs.
+//
+//     tag   e  f:nil="0"  f:nil="true"  x:nil="1"       within  xmlns:f="http://www.w3.org/2001/XMLSchema-instance"
+//            |           |            ^
+//         opened        no           yes: the iterator is left here
+//
+// Both are tested once a call: every name is then looked up in a table that was found good.
+use attributes::Answer;
+use attributes::IterState;
+use attributes::Place;
+use keys::CAPACITY;
+use parts::Truth;
+use scope_table::Form;
+use scope_table::Head;
+use scope_table::NamespaceResolver;
+ghost use mathlib.Core.Path.{_≡_};
+ghost use Prim.Native.Nat.{_≤_};
+ghost use lib.ListN.{length, take};
+ghost use Rattle.scan.specs.Lists.{over};
+ghost use Rattle.scope_table.specs.Table.{resolverOf};
+ghost use Rattle.scope_lookup.specs.Inside.{Inside};
+ghost use Rattle.scope_nil.specs.Nil.{isNil, searched, wholeSearch, hasNilOf, hasNilIn, standsAt, leftBy, unmovedBy, Searchable, Resting};
+
+// Whether a tag has a `nil` that is true: the crate's bool, and the refusals of what it is asked with.
+pub enum Nil {
+    // `f:nil="true"` where `f` is bound to the XMLSchema-instance URI
+    Yes,
+    // every other tag, also one whose attributes are refused
+    No,
+    // 7: an iterator that no reading of this tag leaves
+    BadState,
+    // 20: a resolver that no calls leave
+    BadResolver,
+    // 98: a key is due to be recorded past what is lent; nothing is changed
+    LendMore,
+    // 99: what the head says is in use is not lent, or more than a capacity is; nothing is changed
+    WrongLength,
+}
+
+// The answer, and the iterator that it leaves: after the attribute that was a yes, or after the end.
+pub struct HasNil {
+    pub answer: Nil,
+    pub state: IterState,
+}
+
+// What an iterator has beside its key tables.
+pub struct Standing {
+    pub place: Place,
+    pub html: bool,
+    pub checks: bool,
+    // how many keys are recorded
+    pub count: usize,
+}
+
+// The answer, and what it leaves beside lent tables. Mode and checks stay.
+pub struct Left {
+    pub answer: Nil,
+    pub place: Place,
+    pub count: usize,
+}
+
+// Whether one attribute is what `has_nil` looks for: the closure in `Attributes::has_nil`. The name is resolved last, as
+// that costs most and most names are not called `nil`.
+fn is_nil<'t, 'n>(
+    text: &'t [u8],
+    records: &'t [usize],
+    head: Head,
+    key: &'n [u8],
+    value: &'n [u8],
+) -> bool
+    requires { ⌜ Inside (now records) (head .count) (length (now text)) ⌝ }
+    ensures { λ r. ⌜ r ≡ isNil (resolverOf (now (text .entry)) (now (records .entry)) head) (now (key .entry)) (now (value .entry)) ⌝ }
+{
+    if !scan::same(name::local_name(key), b"nil") {
+        return false;
+    }
+    let truth = parts::as_bool(value);
+    let Truth::Yes = truth else {
+        return false;
+    };
+    let count = head.count;
+    let found = scope_lookup::name_among(text, records, count, key, false);
+    let uri = scope_lookup::uri_part(text, key, found);
+    scan::same(uri, b"http://www.w3.org/2001/XMLSchema-instance")
+}
+
+// The search on an iterator that is good, its tables of full size: a step for each answer, up to the first yes or the end.
+fn search<'k, 't>(
+    tag: &[u8],
+    starts: &'k mut [usize],
+    ends: &'k mut [usize],
+    at: Standing,
+    text: &'t [u8],
+    records: &'t [usize],
+    head: Head,
+) -> Left
+    requires { ⌜ Searchable (now tag) (standsAt at (now starts) (now ends)) × Inside (now records) (head .count) (length (now text)) ⌝ }
+    ensures { λ r. ⌜ leftBy at r (now (starts .exit)) (now (ends .exit))
+        ≡ searched (resolverOf (now (text .entry)) (now (records .entry)) head) (now (tag .entry)) (standsAt at (now (starts .entry)) (now (ends .entry))) ⌝ }
+{
+    let html = at.html;
+    let checks = at.checks;
+    let mut stand = at.place;
+    let mut recorded = at.count;
+    loop {
+        let made = attributes::step_lent(tag, starts, ends, html, checks, recorded, stand);
+        let answer = made.answer;
+        stand = made.place;
+        recorded = made.count;
+        if let Answer::End = answer {
+            return Left {
+                answer: Nil::No,
+                place: stand,
+                count: recorded,
+            };
+        }
+        let key = parts::key_part(tag, answer);
+        let value = parts::value_part(tag, answer);
+        if is_nil(text, records, head, key, value) {
+            return Left {
+                answer: Nil::Yes,
+                place: stand,
+                count: recorded,
+            };
+        }
+    }
+}
+
+// Writes the first n places of a table over those of another.
+fn copy(to: &mut [usize], from: &[usize], n: usize)
+    requires { ⌜ (n ≤ length (now from)) × (n ≤ length (now to)) ⌝ }
+    ensures { λ _. ⌜ now (to .exit) ≡ over (now (to .entry)) 0 (take n (now (from .entry))) ⌝ }
+{
+    let mut i = 0;
+    while i < n {
+        to[i] = from[i];
+        i += 1;
+    }
+}
+
+// The same search on tables that may be shorter. It reads into tables of its own, which have room for every key, so that
+// nothing has changed where the lent ones do not hold what it leaves.
+fn search_short<'k, 't>(
+    tag: &[u8],
+    starts: &'k mut [usize],
+    ends: &'k mut [usize],
+    at: Standing,
+    text: &'t [u8],
+    records: &'t [usize],
+    head: Head,
+) -> Left
+    requires { ⌜ Resting (now tag) (standsAt at (now starts) (now ends)) × Inside (now records) (head .count) (length (now text)) ⌝ }
+    ensures { λ r. ⌜ leftBy at r (now (starts .exit)) (now (ends .exit))
+        ≡ wholeSearch (resolverOf (now (text .entry)) (now (records .entry)) head) (now (tag .entry)) (standsAt at (now (starts .entry)) (now (ends .entry))) ⌝ }
+{
+    let n = starts.len();
+    let m = ends.len();
+    let mut all_starts = [0usize; CAPACITY];
+    let mut all_ends = [0usize; CAPACITY];
+    copy(&mut all_starts, starts, n);
+    copy(&mut all_ends, ends, m);
+    let found = search(tag, &mut all_starts, &mut all_ends, at, text, records, head);
+    let count = found.count;
+    if !keys::holds(starts, ends, count) {
+        return unmoved(Nil::LendMore, at);
+    }
+    copy(starts, &all_starts, n);
+    copy(ends, &all_ends, m);
+    found
+}
+
+// An answer that leaves the iterator where it stands.
+fn unmoved(answer: Nil, at: Standing) -> Left
+    ensures { λ r. ⌜ r ≡ unmovedBy answer at ⌝ }
+{
+    let place = at.place;
+    Left {
+        answer: answer,
+        place: place,
+        count: at.count,
+    }
+}
+
+// `Attributes::has_nil`, src/events/attributes.rs, on lent memory: key tables and scopes of any length up to the capacity.
+pub fn has_nil_in<'k, 't>(
+    tag: &[u8],
+    starts: &'k mut [usize],
+    ends: &'k mut [usize],
+    at: Standing,
+    text: &'t [u8],
+    records: &'t [usize],
+    head: Head,
+) -> Left
+    ensures { λ r. ⌜ leftBy at r (now (starts .exit)) (now (ends .exit))
+        ≡ hasNilIn (now (tag .entry)) (standsAt at (now (starts .entry)) (now (ends .entry))) (now (text .entry)) (now (records .entry)) head ⌝ }
+{
+    if CAPACITY < starts.len() {
+        return unmoved(Nil::WrongLength, at);
+    }
+    if CAPACITY < ends.len() {
+        return unmoved(Nil::WrongLength, at);
+    }
+    let form = scope_table::form_in(text, records, head);
+    match form {
+        Form::Good => {}
+        Form::Bad => return unmoved(Nil::BadResolver, at),
+        Form::WrongLength => return unmoved(Nil::WrongLength, at),
+    }
+    let place = at.place;
+    let count = at.count;
+    if !attributes::good_in(tag, starts, ends, count, place) {
+        attributes::clear(starts);
+        attributes::clear(ends);
+        return Left {
+            answer: Nil::BadState,
+            place: Place::Done,
+            count: 0,
+        };
+    }
+    if starts.len() == CAPACITY {
+        if ends.len() == CAPACITY {
+            return search(tag, starts, ends, at, text, records, head);
+        }
+    }
+    search_short(tag, starts, ends, at, text, records, head)
+}
+
+// `Attributes::has_nil`, src/events/attributes.rs: whether an attribute from here on says that the element is nil.
+pub fn has_nil(state: IterState, tag: &[u8], resolver: NamespaceResolver) -> HasNil
+    ensures { λ r. ⌜ r ≡ hasNilOf (now (tag .entry)) state resolver ⌝ }
+{
+    let html = state.html;
+    let checks = state.check_duplicates;
+    let mut starts = state.starts;
+    let mut ends = state.ends;
+    let count = state.count;
+    let place = state.place;
+    let at = Standing {
+        place: place,
+        html: html,
+        checks: checks,
+        count: count,
+    };
+    let head = resolver.head;
+    let out = has_nil_in(
+        tag,
+        &mut starts,
+        &mut ends,
+        at,
+        &resolver.text,
+        &resolver.records,
+        head,
+    );
+    let answer = out.answer;
+    let left = out.place;
+    HasNil {
+        answer: answer,
+        state: IterState {
+            place: left,
+            html: html,
+            check_duplicates: checks,
+            starts: starts,
+            ends: ends,
+            count: out.count,
+        },
+    }
+}
