@@ -23,7 +23,7 @@ use Rattle.law_scopes.proofs.Follow.{scopes-follow}
 use Rattle.law_scopes.proofs.Sums.{fresh-none, scope-sums}
 use Rattle.law_scopes.proofs.Examples.{history-example}
 use Rattle.law_lent.specs.Run.{nextLent, lentAnswers}
-use Rattle.law_lent.specs.Follows.{Left, Ran, LentRun, LentFresh, LentReached, LentPushPop, FullNeverLends, Longer, CallsAgain}
+use Rattle.law_lent.specs.Follows.{Left, RunOn, LentRun, LentFresh, LentReached, LentPushPop, FullNeverLends, Longer, CallsAgain}
 use Rattle.law_lent.proofs.Held.{call-left, call-more}
 use Rattle.law_lent.proofs.Run.{lent-run, lent-fresh, lent-reached, lent-push-pop}
 use Rattle.law_lent.proofs.Full.{full-never-lends}
@@ -93,13 +93,13 @@ answer-after : callOf opening freshOf .answer ≡ Done
 unfolding ScopesFollow seen
 answer-after = ap (λ (t : Told). t .answer) (scopes-follow freshOf fresh-proper opening ∙ ap (callIn opening) fresh-none ∙ opened)
 
-pub follows-instance : nextLent opening (memory 76) .answer ≡ Done
-follows-instance = held .answer ∙ ap (λ (x : NamespaceResolver). callOf opening x .answer) (fresh-76 .kept .stands) ∙ answer-after
+pub lent-follows-instance : nextLent opening (memory 76) .answer ≡ Done
+lent-follows-instance = held .answer ∙ ap (λ (x : NamespaceResolver). callOf opening x .answer) (fresh-76 .kept .stands) ∙ answer-after
 
 -- 75 do not, and stay as they were
-pub lends-instance : nextLent opening (memory 75) ≡ given LendMore (memory 75 .text) (memory 75 .records) (memory 75 .head)
+pub lends-more-instance : nextLent opening (memory 75) ≡ given LendMore (memory 75 .text) (memory 75 .records) (memory 75 .head)
 unfolding nextLent fitsOf holdsOf
-lends-instance = call-more (memory 75 .text) (memory 75 .records) (memory 75 .head) (fresh-75 .kept .ready) opening (holds-is 75 fresh-75 false refl)
+lends-more-instance = call-more (memory 75 .text) (memory 75 .records) (memory 75 .head) (fresh-75 .kept .ready) opening (holds-is 75 fresh-75 false refl)
 
 done-only : (a : NamespaceResult) → a ≡ Done → a ≡ LendMore → ⊥
 done-only a d e =
@@ -110,25 +110,25 @@ fresh-level : memory 76 .head .level ≡ 0
 unfolding freshOf
 fresh-level = ap (λ (x : NamespaceResolver). x .head .level) (fresh-76 .kept .stands)
 
-pub push-pop-instance : nextLent pop (nextLent opening (memory 76)) ≡ given Done (memory 76 .text) (memory 76 .records) (memory 76 .head)
+pub lent-push-pop-instance : nextLent pop (nextLent opening (memory 76)) ≡ given Done (memory 76 .text) (memory 76 .records) (memory 76 .head)
 unfolding LentPushPop nextLent callOf
-push-pop-instance =
+lent-push-pop-instance =
     lent-push-pop (memory 76 .text) (memory 76 .records) (memory 76 .head) (fresh-76 .kept .ready) (omega (arith, fresh-level))
-    (bytes " xmlns=\"u\" xmlns:p=\"v\"") 0 (done-only (nextLent opening (memory 76) .answer) follows-instance)
+    (bytes " xmlns=\"u\" xmlns:p=\"v\"") 0 (done-only (nextLent opening (memory 76) .answer) lent-follows-instance)
 
-pub reached-instance : lentAnswers (opening ∷ []) (memory 76) ≡ answersIn (opening ∷ []) none
+pub lent-reached-instance : lentAnswers (opening ∷ []) (memory 76) ≡ answersIn (opening ∷ []) none
 unfolding LentReached lentAnswers freshIn heldOf fitsOf holdsOf freshOf
-reached-instance = lent-reached (replicate 76 0) rows (headOf 0 0 0 0) refl (opening ∷ []) (done-only (nextLent opening (memory 76) .answer) follows-instance, _) .1
+lent-reached-instance = lent-reached (replicate 76 0) rows (headOf 0 0 0 0) refl (opening ∷ []) (done-only (nextLent opening (memory 76) .answer) lent-follows-instance, _) .1
 
 -- the same call in a run, and the resolver that the memory stands for after it
-pub run-instance : Ran (opening ∷ []) (memory 76 .text) (memory 76 .records) (standsFor (memory 76 .text) (memory 76 .records) (memory 76 .head)) (given Done (memory 76 .text) (memory 76 .records) (memory 76 .head))
+pub lent-run-instance : RunOn (opening ∷ []) (memory 76 .text) (memory 76 .records) (standsFor (memory 76 .text) (memory 76 .records) (memory 76 .head)) (given Done (memory 76 .text) (memory 76 .records) (memory 76 .head))
 unfolding LentRun lentAnswers nextLent
-run-instance = lent-run (memory 76 .text) (memory 76 .records) (memory 76 .head) (fresh-76 .kept .ready) (opening ∷ []) (done-only (nextLent opening (memory 76) .answer) follows-instance, _)
+lent-run-instance = lent-run (memory 76 .text) (memory 76 .records) (memory 76 .head) (fresh-76 .kept .ready) (opening ∷ []) (done-only (nextLent opening (memory 76) .answer) lent-follows-instance, _)
 
 -- one byte more for the 75: the call that asked for more is the one that the fresh resolver has
-pub again-instance : lentOf (callOf opening) (padTo 76 (memory 75 .text)) (padTo 16 (memory 75 .records)) (memory 75 .head) .answer ≡ Done
+pub calls-again-instance : lentOf (callOf opening) (padTo 76 (memory 75 .text)) (padTo 16 (memory 75 .records)) (memory 75 .head) .answer ≡ Done
 unfolding CallsAgain fitsOf holdsOf
-again-instance =
+calls-again-instance =
     let g = memory 75 in
     let r : length (g .records) ≡ 16 = fresh-75 .kept .records-length in
     let l : Longer (g .text) (g .records) 76 16 = record { bytes-least = omega (arith, bytes-are 75 fresh-75); bytes-most = omega arith; numbers-least = omega arith; numbers-most = omega arith } in
@@ -136,6 +136,6 @@ again-instance =
     ∙ ap (λ (x : NamespaceResolver). callOf opening x .answer) (fresh-75 .kept .stands) ∙ answer-after
 
 -- full size, and nothing of it a resolver
-pub full-instance : lentOf (callOf pop) (replicate TEXT 7) (replicate NUMBERS 7) (headOf 70000 5000 3 0) .answer ≡ LendMore → ⊥
+pub full-never-lends-instance : lentOf (callOf pop) (replicate TEXT 7) (replicate NUMBERS 7) (headOf 70000 5000 3 0) .answer ≡ LendMore → ⊥
 unfolding FullNeverLends
-full-instance = full-never-lends (replicate TEXT 7) (replicate NUMBERS 7) (headOf 70000 5000 3 0) (length-replicate {A = ℕ} TEXT 7) (length-replicate {A = ℕ} NUMBERS 7) pop .0
+full-never-lends-instance = full-never-lends (replicate TEXT 7) (replicate NUMBERS 7) (headOf 70000 5000 3 0) (length-replicate {A = ℕ} TEXT 7) (length-replicate {A = ℕ} NUMBERS 7) pop .0

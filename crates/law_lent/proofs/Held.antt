@@ -24,7 +24,7 @@ use Rattle.scope_table.proofs.Calls.{changes, lends-more}
 use Rattle.law_scopes.specs.Calls.{Call, callOf}
 use Rattle.law_scopes.specs.Promises.{Proper, ValidStays}
 use Rattle.law_scopes.proofs.Valid.{valid-stays}
-use Rattle.law_lent.specs.Follows.{Kept, Left, LentFollows}
+use Rattle.law_lent.specs.Follows.{MemoryFor, Left, LentFollows}
 
 -- a list that is zeros from n on, cut at n and padded again
 pad-of-take : (m n : ℕ) (ys : List ℕ) → length ys ≡ m → n ≤ m → allZero (drop n ys) ≡ true → padTo m (take n ys) ≡ ys
@@ -40,7 +40,7 @@ module _ (bytes numbers : ℕ) (y : NamespaceResolver) (p : Proper y) where
   left a = given a (take bytes (y .text)) (take numbers (y .records)) (y .head)
 
   pub held-kept : (text records : List ℕ) (a : NamespaceResult) → length text ≡ bytes → length records ≡ numbers →
-      fitsOf bytes numbers (y .head .used) (y .head .count) ≡ true → Kept text records y (left a)
+      fitsOf bytes numbers (y .head .used) (y .head .count) ≡ true → MemoryFor text records y (left a)
   unfolding fitsOf
   held-kept text records a t r e =
       let f = formed-valid y (p .valid) in

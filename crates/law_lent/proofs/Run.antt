@@ -20,16 +20,16 @@ use Rattle.scope_table.specs.declared.Form.the-variants as Is
 use Rattle.scope_table.proofs.Pad.{pad-take}
 use Rattle.scope_table.proofs.Good.{ready}
 use Rattle.scope_table.proofs.Calls.{changes}
-use Rattle.scope_declare.specs.Declare.{popOf}
+use Rattle.scope_declare.specs.Declare.{popOf, limitedOf}
 use Rattle.scope_push.specs.Push.{pushOf}
-use Rattle.law_scopes.specs.Calls.{Call, push, callOf, leftBy, answersBy}
+use Rattle.law_scopes.specs.Calls.{Call, push, setLimit, callOf, leftBy, answersBy}
 use Rattle.law_scopes.specs.Scopes.{none, standing}
 use Rattle.law_scopes.specs.Promises.{Sums, PushPopReturns, ScopeSums, AnswersFollow}
 use Rattle.law_scopes.proofs.Valid.{fresh-proper}
 use Rattle.law_scopes.proofs.Returns.{push-pop-returns}
 use Rattle.law_scopes.proofs.Sums.{scope-sums, answers-follow}
 use Rattle.law_lent.specs.Run.{nextLent, lentBy, lentAnswers, Enough}
-use Rattle.law_lent.specs.Follows.{Kept, Left, LentFollows, Ran, LentRun, LentFresh, LentReached, LentPushPop}
+use Rattle.law_lent.specs.Follows.{MemoryFor, Left, LentFollows, RunOn, LentLimit, LentRun, LentFresh, LentReached, LentPushPop}
 use Rattle.law_lent.proofs.Held.{held-kept, stands-proper, lent-follows}
 
 -- a call that does not ask for more
@@ -43,15 +43,15 @@ left-of text records head good c never =
     (lent-follows text records head good c)
 
 -- memory that stands for a resolver, and the calls from there
-run-from : (calls : List Call) (text records : List ℕ) (x : NamespaceResolver) (g : Given) → Kept text records x g →
-    Enough (lentAnswers calls g) → Ran calls text records x g
+run-from : (calls : List Call) (text records : List ℕ) (x : NamespaceResolver) (g : Given) → MemoryFor text records x g →
+    Enough (lentAnswers calls g) → RunOn calls text records x g
 unfolding nextLent lentBy lentAnswers leftBy answersBy
 run-from [] text records x g k h = record { answers = refl; kept = k }
 run-from (c ∷ more) text records x g k h =
     let l = left-of (g .text) (g .records) (g .head) (k .ready) c (h .0) in
     let e : callOf c (standsFor (g .text) (g .records) (g .head)) ≡ callOf c x = ap (callOf c) (k .stands) in
     let n = nextLent c g in
-    let m : Kept text records (callOf c x .resolver) n =
+    let m : MemoryFor text records (callOf c x .resolver) n =
     record {
       stands = l .kept .stands ∙ ap (λ (r : Changed). r .resolver) e;
       text-length = l .kept .text-length ∙ k .text-length;
@@ -67,6 +67,12 @@ unfolding LentRun
 lent-run text records head good calls enough =
     run-from calls text records (standsFor text records head) (given Done text records head)
     (record { stands = refl; text-length = refl; records-length = refl; ready = good }) enough
+
+pub lent-limit : LentLimit
+unfolding LentLimit callOf limitedOf
+lent-limit text records head fit limit =
+    let x = standsFor text records head in
+    sym (changes text records head fit (callOf (setLimit limit)) Done (limitedOf limit x) text records refl fit (pad-take TEXT text) (pad-take NUMBERS records))
 
 -- The fresh resolver.
 

@@ -6,7 +6,7 @@ use mathlib.Core.Bool.{true, false}
 use mathlib.Core.List.{List}
 use mathlib.Core.Logic.{_⊎_}
 use lib.ListN.{length}
-use Rattle.scope_table.specs.Table.{TEXT, NUMBERS, DEEPEST, resolverOf, freshOf}
+use Rattle.scope_table.specs.Table.{TEXT, NUMBERS, DEEPEST, headOf, resolverOf, freshOf}
 use Rattle.scope_table.specs.Answer.{changed}
 use Rattle.scope_table.specs.Lent.{padTo, standsFor, fitsOf, lent, Given, given, lentOf, freshIn, formOf}
 use Rattle.scope_table.specs.declared.Head.{Head}
@@ -16,13 +16,13 @@ use Rattle.scope_table.specs.declared.NamespaceResult.the-variants.{Done, LendM
 use Rattle.scope_table.specs.declared.Form.the-variants as Is
 use Rattle.scope_declare.specs.Declare.{popOf}
 use Rattle.scope_push.specs.Push.{pushOf}
-use Rattle.law_scopes.specs.Calls.{Call, callOf, leftBy, answersBy}
+use Rattle.law_scopes.specs.Calls.{Call, setLimit, callOf, leftBy, answersBy}
 use Rattle.law_scopes.specs.Scopes.{none, standing, answersIn}
 use Rattle.law_scopes.specs.Promises.{Sums}
 use Rattle.law_lent.specs.Run.{lentBy, lentAnswers, Enough}
 
 -- Memory that stands for a resolver, as long as some text and records were, and ready for the next call.
-pub record Kept (text records : List ℕ) (x : NamespaceResolver) (g : Given) : Type 0 where
+pub record MemoryFor (text records : List ℕ) (x : NamespaceResolver) (g : Given) : Type 0 where
   pub stands : standsFor (g .text) (g .records) (g .head) ≡ x
   pub text-length : length (g .text) ≡ length text
   pub records-length : length (g .records) ≡ length records
@@ -31,7 +31,7 @@ pub record Kept (text records : List ℕ) (x : NamespaceResolver) (g : Given) : 
 -- What a call left on lent memory is what it leaves on a resolver: its answer, and memory for the resolver after it.
 pub record Left (text records : List ℕ) (c : Changed) (g : Given) : Type 0 where
   pub answer : g .answer ≡ c .answer
-  pub kept : Kept text records (c .resolver) g
+  pub kept : MemoryFor text records (c .resolver) g
 
 -- Memory that is ready, and any call on it, refused or not: LendMore, which changes nothing, or what the call makes of the
 -- resolver that the memory stands for.
@@ -41,17 +41,25 @@ LentFollows =
     (lentOf (callOf c) text records head ≡ given LendMore text records head)
     ⊎ Left text records (callOf c (standsFor text records head)) (lentOf (callOf c) text records head)
 
+-- The limit of lent memory is set by its caller, in the head: that is the call that sets it.
+unfoldable pub LentLimit : Type 0
+LentLimit =
+    (text records : List ℕ) (head : Head) → fitsOf (length text) (length records) (head .used) (head .count) ≡ true →
+    (limit : ℕ) →
+    lentOf (callOf (setLimit limit)) text records head
+    ≡ given Done text records (headOf (head .used) (head .count) (head .level) limit)
+
 -- What calls leave and answer, made one after another.
-pub record Ran (calls : List Call) (text records : List ℕ) (x : NamespaceResolver) (g : Given) : Type 0 where
+pub record RunOn (calls : List Call) (text records : List ℕ) (x : NamespaceResolver) (g : Given) : Type 0 where
   pub answers : lentAnswers calls g ≡ answersBy calls x
-  pub kept : Kept text records (leftBy calls x) (lentBy calls g)
+  pub kept : MemoryFor text records (leftBy calls x) (lentBy calls g)
 
 -- As long as no call asks for more memory, calls on lent memory are the calls on the resolver that it stands for.
 unfoldable pub LentRun : Type 0
 LentRun =
     (text records : List ℕ) (head : Head) → formOf text records head ≡ Is.Good →
     (calls : List Call) → Enough (lentAnswers calls (given Done text records head)) →
-    Ran calls text records (standsFor text records head) (given Done text records head)
+    RunOn calls text records (standsFor text records head) (given Done text records head)
 
 -- A fresh resolver in lent memory, whatever stood there, stands for the fresh resolver.
 unfoldable pub LentFresh : Type 0

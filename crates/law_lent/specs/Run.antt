@@ -6,8 +6,7 @@ use Rattle.scope_table.specs.declared.NamespaceResult.{NamespaceResult}
 use Rattle.scope_table.specs.declared.NamespaceResult.the-variants.{LendMore}
 use Rattle.law_scopes.specs.Calls.{Call, callOf}
 
--- The next call. Setting the limit is no call on lent memory: its caller writes the number into the head, which is what
--- `lentOf` makes of it.
+-- The next call. To set the limit the caller writes it into the head (`LentLimit`); the others are calls on lent memory.
 unfoldable pub nextLent : Call → Given → Given
 nextLent c g = lentOf (callOf c) (g .text) (g .records) (g .head)
 
