@@ -1,10 +1,17 @@
 -- What a listing shows across the boundary, by numbers.
 use Prim.Native.Nat.{ℕ}
-use mathlib.Core.List.{List, [], _∷_, _++_}
-use lib.ListN.{take, replicate}
-use Rattle.scope_listing.specs.Listing.{listedNumbers}
+use mathlib.Core.List.{List}
+use lib.ListN.{set}
+use Rattle.scope_listing.specs.Listing.{listedNumbers, linedUp}
+use Rattle.scope_listing.specs.declared.LinedUp.{LinedUp}
 use Rattle.scope_listing.specs.declared.Listing.{Listing}
+use Rattle.export_memory.specs.Boundary.{Asked, asked}
 
--- The number of what is shown with its four bounds, zeros where it has none, and then the place to go on from.
-unfoldable pub listingNumbers : Listing → List ℕ
-listingNumbers l = take 5 (listedNumbers (l .answer) ++ replicate 4 0) ++ (l .place ∷ [])
+-- the number of an answer; its four bounds, 0 where it has none, and then the place to go on from, in the detail
+abbrev pub listedAs : LinedUp → (place : ℕ) (detail : List ℕ) → Asked
+listedAs n place detail =
+    asked (n .number)
+    (set (set (set (set (set detail 0 (n .«prefix_from»)) 1 (n .«prefix_to»)) 2 (n .«value_from»)) 3 (n .«value_to»)) 4 place)
+
+unfoldable pub listedBy : Listing → (detail : List ℕ) → Asked
+listedBy l detail = listedAs (linedUp (listedNumbers (l .answer))) (l .place) detail

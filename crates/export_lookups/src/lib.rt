@@ -2,22 +2,14 @@
 // crate that has the rule, and answers by numbers; none asks anything of its caller. A slice passes as pointer and length, an
 // array of fixed length as its pointer alone.
 ghost use mathlib.Core.Path.{_≡_};
-ghost use mathlib.Core.List.{[], _∷_};
-ghost use lib.ListN.{length};
 ghost use Rattle.scope_table.specs.Lent.{lent};
 ghost use Rattle.scope_lookup.specs.Lookup.{resolvedNumbers, resolveOf};
 ghost use Rattle.scope_lookup.specs.declared.Resolved.the-variants as Found;
 ghost use Rattle.scope_listing.specs.Listing.{listing, bindingsOf, bindingsAtOf};
 ghost use Rattle.scope_listing.specs.declared.Listed.the-variants as Shown;
-ghost use Rattle.export_memory.specs.Boundary.{headIn, asked, askedOf, askIn};
-ghost use Rattle.export_lookups.specs.Listings.{listingNumbers};
-use export_memory::DETAIL;
-use export_memory::HEAD;
-use export_memory::WRONG;
+ghost use Rattle.export_memory.specs.Boundary.{headIn, asked, askIn};
+ghost use Rattle.export_lookups.specs.Listings.{listedBy};
 use scope_listing::Listing;
-
-// The numbers of a listing's detail.
-pub const LISTED: usize = 5;
 
 // What a name resolves to: `scope_lookup::resolve_in`. 0 Unbound, 1 Bound with the URI's bounds in the text, 2 Unknown with the
 // prefix's bounds in the name, 20, 99.
@@ -32,24 +24,17 @@ pub extern "C" fn mz_resolve<'t, 'n>(
 ) -> usize
     ensures { λ r.
         ⌜ asked r (now (detail .exit))
-        ≡ askIn 2 (resolvedNumbers (lent Found.WrongLength (resolveOf (now (name .entry)) «use_default») (now (text .entry)) (now (records .entry)) (headIn (now (head .entry)))))
-        (now (head .entry)) (now (detail .entry)) ⌝ }
+        ≡ askIn (resolvedNumbers (lent Found.WrongLength (resolveOf (now (name .entry)) «use_default») (now (text .entry)) (now (records .entry)) (headIn (now (head .entry)))))
+        (now (detail .entry)) ⌝ }
 {
-    if !export_memory::has(head, HEAD) {
-        return WRONG;
-    }
-    if !export_memory::has(detail, DETAIL) {
-        return WRONG;
-    }
     let h = export_memory::head_from(head);
     let found = scope_lookup::resolve_in(text, records, h, name, use_default);
     export_memory::tell(detail, scope_lookup::resolved_numbers(found))
 }
 
 // Writes what a listing shows, and gives its number.
-fn list(detail: &mut [usize], shown: Listing) -> usize
-    requires { ⌜ length (now detail) ≡ 5 ⌝ }
-    ensures { λ r. ⌜ asked r (now (detail .exit)) ≡ askedOf 5 (listingNumbers shown) ⌝ }
+fn list(detail: &mut [usize; 5], shown: Listing) -> usize
+    ensures { λ r. ⌜ asked r (now (detail .exit)) ≡ listedBy shown (now (detail .entry)) ⌝ }
 {
     let answer = shown.answer;
     let five = scope_listing::listed_numbers(answer);
@@ -73,15 +58,9 @@ pub extern "C" fn mz_binding<'t>(
 ) -> usize
     ensures { λ r.
         ⌜ asked r (now (detail .exit))
-        ≡ askIn 5 (listingNumbers (lent (listing Shown.WrongLength place) (bindingsOf place) (now (text .entry)) (now (records .entry)) (headIn (now (head .entry)))))
-        (now (head .entry)) (now (detail .entry)) ⌝ }
+        ≡ listedBy (lent (listing Shown.WrongLength place) (bindingsOf place) (now (text .entry)) (now (records .entry)) (headIn (now (head .entry))))
+        (now (detail .entry)) ⌝ }
 {
-    if !export_memory::has(head, HEAD) {
-        return WRONG;
-    }
-    if !export_memory::has(detail, LISTED) {
-        return WRONG;
-    }
     let h = export_memory::head_from(head);
     list(detail, scope_listing::bindings_in(text, records, h, place))
 }
@@ -98,15 +77,9 @@ pub extern "C" fn mz_binding_of<'t>(
 ) -> usize
     ensures { λ r.
         ⌜ asked r (now (detail .exit))
-        ≡ askIn 5 (listingNumbers (lent (listing Shown.WrongLength place) (bindingsAtOf level place) (now (text .entry)) (now (records .entry)) (headIn (now (head .entry)))))
-        (now (head .entry)) (now (detail .entry)) ⌝ }
+        ≡ listedBy (lent (listing Shown.WrongLength place) (bindingsAtOf level place) (now (text .entry)) (now (records .entry)) (headIn (now (head .entry))))
+        (now (detail .entry)) ⌝ }
 {
-    if !export_memory::has(head, HEAD) {
-        return WRONG;
-    }
-    if !export_memory::has(detail, LISTED) {
-        return WRONG;
-    }
     let h = export_memory::head_from(head);
     list(
         detail,

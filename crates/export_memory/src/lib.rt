@@ -1,36 +1,20 @@
 // What all exports on a lent resolver share, whether they change it or ask it: its head stands in four numbers, and an answer is
-// a number with its values in a lent array.
-//
-// `head` and `detail` are arrays of a fixed length and pass by their pointers alone. Their types say their lengths; the prover
-// does not read it off a reference, and so each export tests it (`has`), which the compiler takes out.
+// a number with its values in a lent array. Both arrays have a fixed length and pass by their pointers alone.
 ghost use mathlib.Core.Path.{_≡_};
-ghost use mathlib.Core.List.{[], _∷_};
-ghost use lib.ListN.{length};
-ghost use lib.Dec.{eqb};
+ghost use lib.ListN.{set};
 ghost use Rattle.scope_table.specs.Answer.{changeNumbers};
-ghost use Rattle.export_memory.specs.Boundary.{headIn, headList, codeOf, asked, askedOf};
+ghost use Rattle.export_memory.specs.Boundary.{headIn, headAfter, codeOf, asked, askIn};
 use scope_table::Head;
 use scope_table::Outcome;
 use scope_table::Told;
-
-// The answer where an array has another length than its type says: none that a caller can see.
-pub const WRONG: usize = 99;
 
 // The numbers of a head, and of the values that an answer has.
 pub const HEAD: usize = 4;
 
 pub const DETAIL: usize = 2;
 
-// Whether an array has so many elements.
-pub fn has(t: &[usize], n: usize) -> bool
-    ensures { λ r. ⌜ r ≡ eqb (length (now (t .entry))) n ⌝ }
-{
-    t.len() == n
-}
-
 // The head that stands in four numbers.
-pub fn head_from(head: &[usize]) -> Head
-    requires { ⌜ length (now head) ≡ 4 ⌝ }
+pub fn head_from(head: &[usize; 4]) -> Head
     ensures { λ r. ⌜ r ≡ headIn (now (head .entry)) ⌝ }
 {
     Head {
@@ -42,9 +26,8 @@ pub fn head_from(head: &[usize]) -> Head
 }
 
 // Writes them.
-fn put_head(t: &mut [usize], head: Head)
-    requires { ⌜ length (now t) ≡ 4 ⌝ }
-    ensures { λ _. ⌜ now (t .exit) ≡ headList head ⌝ }
+fn put_head(t: &mut [usize; 4], head: Head)
+    ensures { λ _. ⌜ now (t .exit) ≡ headAfter (now (t .entry)) head ⌝ }
 {
     t[0] = head.used;
     t[1] = head.count;
@@ -53,9 +36,8 @@ fn put_head(t: &mut [usize], head: Head)
 }
 
 // Writes the two values of an answer, and gives its number.
-pub fn tell(detail: &mut [usize], told: Told) -> usize
-    requires { ⌜ length (now detail) ≡ 2 ⌝ }
-    ensures { λ r. ⌜ asked r (now (detail .exit)) ≡ asked (told .number) (told .first ∷ told .second ∷ []) ⌝ }
+pub fn tell(detail: &mut [usize; 2], told: Told) -> usize
+    ensures { λ r. ⌜ asked r (now (detail .exit)) ≡ asked (told .number) (set (set (now (detail .entry)) 0 (told .first)) 1 (told .second)) ⌝ }
 {
     detail[0] = told.first;
     detail[1] = told.second;
@@ -63,9 +45,10 @@ pub fn tell(detail: &mut [usize], told: Told) -> usize
 }
 
 // What a call on lent memory left: its head is written, and the answer's number is given.
-pub fn left_head(head: &mut [usize], out: Outcome) -> usize
-    requires { ⌜ length (now head) ≡ 4 ⌝ }
-    ensures { λ r. ⌜ (r ≡ codeOf (changeNumbers (out .answer))) × (now (head .exit) ≡ headList (out .head)) ⌝ }
+pub fn left_head(head: &mut [usize; 4], out: Outcome) -> usize
+    ensures { λ r.
+        ⌜ (r ≡ codeOf (changeNumbers (out .answer)))
+        × (now (head .exit) ≡ headAfter (now (head .entry)) (out .head)) ⌝ }
 {
     let left = out.head;
     put_head(head, left);
@@ -75,11 +58,10 @@ pub fn left_head(head: &mut [usize], out: Outcome) -> usize
 }
 
 // The same, and the answer's values are written.
-pub fn left(head: &mut [usize], detail: &mut [usize], out: Outcome) -> usize
-    requires { ⌜ (length (now head) ≡ 4) × (length (now detail) ≡ 2) ⌝ }
+pub fn left(head: &mut [usize; 4], detail: &mut [usize; 2], out: Outcome) -> usize
     ensures { λ r.
-        ⌜ (asked r (now (detail .exit)) ≡ askedOf 2 (changeNumbers (out .answer)))
-        × (now (head .exit) ≡ headList (out .head)) ⌝ }
+        ⌜ (asked r (now (detail .exit)) ≡ askIn (changeNumbers (out .answer)) (now (detail .entry)))
+        × (now (head .exit) ≡ headAfter (now (head .entry)) (out .head)) ⌝ }
 {
     let left = out.head;
     put_head(head, left);

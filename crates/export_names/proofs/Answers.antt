@@ -15,8 +15,7 @@ use Rattle.scope_table.specs.Table.{validOf}
 use Rattle.scope_table.specs.Answer.{toldOf}
 use Rattle.scope_table.specs.declared.NamespaceResolver.{NamespaceResolver}
 use Rattle.scope_lookup.specs.Lookup.{resolvedNumbers, resolveOf}
-use Rattle.export_memory.specs.Boundary.{codeOf, detailOf, Asked, askedOf}
-use Rattle.export_memory.proofs.Calls.{told-two}
+use Rattle.export_memory.specs.Boundary.{codeOf}
 use Rattle.export_names.specs.Names.{Names, upTo, nthOf, writtenOf, manyOf}
 use Rattle.export_names.proofs.Written.{upto-length}
 
@@ -36,10 +35,6 @@ written-at : (d : List ℕ) (f : ℕ → ℕ) (n k : ℕ) → k < n → getD (ov
 unfolding over
 written-at d f n k h =
     List·getD-append (upTo f n) (drop (0 + length (upTo f n)) d) 0 k (omega (arith, upto-length f n)) ∙ upto-at f n k h
-
-two-told : (l : List ℕ) → toldOf l .first ∷ toldOf l .second ∷ [] ≡ detailOf 2 l
-unfolding askedOf
-two-told l = ap (λ (a : Asked). a .detail) (told-two l)
 
 module _ (x : NamespaceResolver) (good : validOf x ≡ true) (tag from to : List ℕ) (elements : ℕ) (kinds begins ends : List ℕ) where
   abbrev after : Names
@@ -65,5 +60,5 @@ module _ (x : NamespaceResolver) (good : validOf x ≡ true) (tag from to : List
   unfolding manyOf writtenOf nthOf
   end-at k h = rw good (written-at ends (λ i. nthOf tag from to elements x i .second) (length from) k h)
 
-  pub bounds-as-alone : (k : ℕ) → k < length from → getD (after .begins) k 0 ∷ getD (after .ends) k 0 ∷ [] ≡ detailOf 2 (alone k)
-  bounds-as-alone k h = rw (begin-at k h, end-at k h) (two-told (alone k))
+  pub bounds-as-alone : (k : ℕ) → k < length from → (getD (after .begins) k 0 ≡ getD (alone k) 1 0) × (getD (after .ends) k 0 ≡ getD (alone k) 2 0)
+  bounds-as-alone k h = (begin-at k h, end-at k h)

@@ -2,7 +2,7 @@
 -- lent is answered as in the resolver that this stands for.
 use Prim.Native.Nat.{ℕ, _≤_}
 use mathlib.Core.Path.{_≡_, refl, sym, ap, _∙_}
-use mathlib.Core.Bool.{Bool, true, false, _&&_, and-false}
+use mathlib.Core.Bool.{Bool, true, false, _&&_}
 use mathlib.Core.List.{List}
 use lib.ListN.{length, getD}
 use lib.Dec.{eqb, ltb}
@@ -23,7 +23,7 @@ use Rattle.scope_lookup.specs.Lookup.{amongOf, resolvePrefixOf, resolveOf, reso
 use Rattle.scope_lookup.specs.declared.Resolved.{Resolved}
 use Rattle.scope_lookup.specs.declared.Resolved.the-variants.{WrongLength}
 use Rattle.scope_lookup.proofs.Padded.{ready-inside, lookup-good}
-use Rattle.export_memory.specs.Boundary.{WRONG, headIn}
+use Rattle.export_memory.specs.Boundary.{headIn}
 use Rattle.export_names.specs.Names.{Names, names, nthOf, writtenOf, manyOf, alikeOf, manyIn}
 use Rattle.export_names.proofs.Written.{Filled, filled-all}
 
@@ -56,13 +56,9 @@ module _ (tag from to : List ℕ) (elements : ℕ) (kinds begins ends text recor
   abbrev pub nth : ℕ → Told
   nth = nthOf tag from to elements (standsFor text records (headIn head))
 
-  pub names-head : eqb (length head) 4 ≡ false → names WRONG kinds begins ends ≡ all
+  pub names-unlike : alikeOf from to kinds begins ends ≡ false → names 99 kinds begins ends ≡ all
   unfolding manyIn
-  names-head h = rw h
-
-  pub names-unlike : alikeOf from to kinds begins ends ≡ false → names WRONG kinds begins ends ≡ all
-  unfolding manyIn
-  names-unlike u = rw (u, and-false (eqb (length head) 4))
+  names-unlike u = rw u
 
   module _ (h : Head) (read : h ≡ headIn head) where
     -- each name, where the form is good
@@ -87,21 +83,21 @@ module _ (tag from to : List ℕ) (elements : ℕ) (kinds begins ends text recor
           ∙ ap (λ (x : List ℕ). toldOf (resolvedNumbers (resolveOf x (ltb i elements) (standsFor text records (headIn head))))) e
 
     -- the whole call, where each length is right
-    module _ (long : eqb (length head) 4 ≡ true) (like : alikeOf from to kinds begins ends ≡ true) where
-      made : all ≡ lent (names WRONG kinds begins ends) (manyOf tag from to elements kinds begins ends) text records h
+    module _ (like : alikeOf from to kinds begins ends ≡ true) where
+      made : all ≡ lent (names 99 kinds begins ends) (manyOf tag from to elements kinds begins ends) text records h
       unfolding manyIn
-      made = rw (long, like, read)
+      made = rw (like, read)
 
-      pub names-wrong : formOf text records h ≡ Is.WrongLength → names WRONG kinds begins ends ≡ all
+      pub names-wrong : formOf text records h ≡ Is.WrongLength → names 99 kinds begins ends ≡ all
       names-wrong e =
-          sym (made ∙ asks-wrong text records h (names WRONG kinds begins ends) (manyOf tag from to elements kinds begins ends) e)
+          sym (made ∙ asks-wrong text records h (names 99 kinds begins ends) (manyOf tag from to elements kinds begins ends) e)
 
       pub names-bad : formOf text records h ≡ Is.Bad → names 20 kinds begins ends ≡ all
       unfolding manyOf
       names-bad e =
           sym
           (made
-          ∙ asks-bad text records h (names WRONG kinds begins ends) (λ x. writtenOf (nthOf tag from to elements x) (length from) kinds begins ends) (λ x. names 20 kinds begins ends) e)
+          ∙ asks-bad text records h (names 99 kinds begins ends) (λ x. writtenOf (nthOf tag from to elements x) (length from) kinds begins ends) (λ x. names 20 kinds begins ends) e)
 
       pub names-good : formOf text records h ≡ Is.Good → (kinds′ begins′ ends′ : List ℕ) (i : ℕ) →
           Filled nth (length from) kinds begins ends kinds′ begins′ ends′ i → length from ≤ i → names 0 kinds′ begins′ ends′ ≡ all
@@ -111,4 +107,4 @@ module _ (tag from to : List ℕ) (elements : ℕ) (kinds begins ends text recor
           ∙ ap (λ (x : Head). writtenOf (nthOf tag from to elements (standsFor text records x)) (length from) kinds begins ends) (sym read)
           ∙ sym
           (made
-          ∙ asks-good text records h (names WRONG kinds begins ends) (λ x. writtenOf (nthOf tag from to elements x) (length from) kinds begins ends) (λ x. names 20 kinds begins ends) e)
+          ∙ asks-good text records h (names 99 kinds begins ends) (λ x. writtenOf (nthOf tag from to elements x) (length from) kinds begins ends) (λ x. names 20 kinds begins ends) e)

@@ -13,7 +13,7 @@ use Rattle.scope_table.specs.Lent.{lent}
 use Rattle.scope_table.specs.declared.NamespaceResolver.{NamespaceResolver}
 use Rattle.scope_table.specs.declared.Told.{Told}
 use Rattle.scope_lookup.specs.Lookup.{resolvedNumbers, resolveOf}
-use Rattle.export_memory.specs.Boundary.{WRONG, headIn}
+use Rattle.export_memory.specs.Boundary.{headIn}
 
 -- f of each number below n
 unfoldable pub upTo : (ℕ → ℕ) → ℕ → List ℕ
@@ -58,6 +58,6 @@ alikeOf from to kinds begins ends =
 -- The same on lent memory. Where an array has a wrong length nothing is written.
 unfoldable pub manyIn : (tag from to : List ℕ) (elements : ℕ) (kinds begins ends text records head : List ℕ) → Names
 manyIn tag from to elements kinds begins ends text records head =
-    pick (eqb (length head) 4 && alikeOf from to kinds begins ends)
-    (lent (names WRONG kinds begins ends) (manyOf tag from to elements kinds begins ends) text records (headIn head))
-    (names WRONG kinds begins ends)
+    pick (alikeOf from to kinds begins ends)
+    (lent (names 99 kinds begins ends) (manyOf tag from to elements kinds begins ends) text records (headIn head))
+    (names 99 kinds begins ends)

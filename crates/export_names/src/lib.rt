@@ -2,9 +2,12 @@
 // the other calls that ask a resolver, so that the lookup has one caller here and is compiled into the loop over the names.
 ghost use mathlib.Core.Path.{_≡_};
 ghost use Rattle.export_names.specs.Names.{alikeOf, names, manyIn};
-use export_memory::HEAD;
-use export_memory::WRONG;
 use scope_table::Form;
+
+// Refusal 20, and the answer of lent memory of a wrong length.
+const BAD_RESOLVER: usize = 20;
+
+const WRONG_LENGTH: usize = 99;
 
 // Whether there are as many starts as ends, and as many places for each part of an answer.
 fn alike<'n>(
@@ -49,18 +52,15 @@ pub extern "C" fn mz_resolve_all<'t, 'n>(
         ≡ manyIn (now (tag .entry)) (now (from .entry)) (now (to .entry)) elements (now (kinds .entry)) (now (begins .entry)) (now (ends .entry))
         (now (text .entry)) (now (records .entry)) (now (head .entry)) ⌝ }
 {
-    if !export_memory::has(head, HEAD) {
-        return WRONG;
-    }
     if !alike(from, to, kinds, begins, ends) {
-        return WRONG;
+        return WRONG_LENGTH;
     }
     let h = export_memory::head_from(head);
     let form = scope_table::form_in(text, records, h);
     match form {
         Form::Good => {}
-        Form::Bad => return 20,
-        Form::WrongLength => return WRONG,
+        Form::Bad => return BAD_RESOLVER,
+        Form::WrongLength => return WRONG_LENGTH,
     }
     let count = h.count;
     let mut i = 0;

@@ -1,2 +1,3 @@
 pub mod Declared
+pub mod Fresh
 pub mod Layout

@@ -3,18 +3,20 @@
 // an array of fixed length as its pointer alone.
 ghost use mathlib.Core.Path.{_≡_};
 ghost use mathlib.Core.List.{[]};
-ghost use Rattle.scope_table.specs.Lent.{freshIn, lentOf};
+ghost use Rattle.scope_table.specs.Lent.{lentOf};
 ghost use Rattle.scope_change.specs.Change.{levelOf};
 ghost use Rattle.scope_declare.specs.Declare.{addOf, popOf};
 ghost use Rattle.scope_push.specs.Push.{pushOf};
 ghost use Rattle.export_memory.specs.Boundary.{crossed, changeIn};
 ghost use Rattle.export_scopes.specs.Layout.{layoutOf};
 ghost use Rattle.export_scopes.specs.Declared.{declaredBy};
+ghost use Rattle.export_scopes.specs.Fresh.{freshBy};
 use export_memory::DETAIL;
 use export_memory::HEAD;
-use export_memory::WRONG;
 use name::Declares;
+use scope_table::Head;
 use scope_table::NamespaceResolver;
+use scope_table::NamespaceResult;
 
 // The numbers that a caller's memory is held against, as `layoutOf` of specs/Layout.antt lists them. The kit has no
 // `size_of`, so the last two are what x86-64 has.
@@ -46,18 +48,25 @@ pub extern "C" fn mz_layout(what: usize) -> usize
 }
 
 // Writes the fresh resolver, whatever stood in the lent memory: `scope_table::fresh_in`. `head` is text used, records in use,
-// level and limit, which the caller sets as it likes. 0, 98, 99.
+// level and limit; it is not read, and is written where there is room. 0, 98, 99.
 #[no_mangle]
 pub extern "C" fn mz_fresh(text: &mut [u8], records: &mut [usize], head: &mut [usize; 4]) -> usize
     ensures { λ r.
         ⌜ crossed r (now (text .exit)) (now (records .exit)) (now (head .exit)) []
-        ≡ changeIn 0 freshIn (now (text .entry)) (now (records .entry)) (now (head .entry)) [] ⌝ }
+        ≡ freshBy (now (text .entry)) (now (records .entry)) (now (head .entry)) ⌝ }
 {
-    if !export_memory::has(head, HEAD) {
-        return WRONG;
-    }
-    let h = export_memory::head_from(head);
-    let out = scope_table::fresh_in(text, records, h);
+    let none = Head {
+        used: 0,
+        count: 0,
+        level: 0,
+        limit: 0,
+    };
+    let out = scope_table::fresh_in(text, records, none);
+    let answer = out.answer;
+    let NamespaceResult::Done = answer else {
+        let told = scope_table::change_numbers(answer);
+        return told.number;
+    };
     export_memory::left_head(head, out)
 }
 
@@ -73,14 +82,8 @@ pub extern "C" fn mz_push(
 ) -> usize
     ensures { λ r.
         ⌜ crossed r (now (text .exit)) (now (records .exit)) (now (head .exit)) (now (detail .exit))
-        ≡ changeIn 2 (lentOf (pushOf (now (tag .entry)) at)) (now (text .entry)) (now (records .entry)) (now (head .entry)) (now (detail .entry)) ⌝ }
+        ≡ changeIn (lentOf (pushOf (now (tag .entry)) at)) (now (text .entry)) (now (records .entry)) (now (head .entry)) (now (detail .entry)) ⌝ }
 {
-    if !export_memory::has(head, HEAD) {
-        return WRONG;
-    }
-    if !export_memory::has(detail, DETAIL) {
-        return WRONG;
-    }
     let h = export_memory::head_from(head);
     let out = scope_push::push_in(text, records, h, tag, at);
     export_memory::left(head, detail, out)
@@ -91,11 +94,8 @@ pub extern "C" fn mz_push(
 pub extern "C" fn mz_pop(text: &mut [u8], records: &mut [usize], head: &mut [usize; 4]) -> usize
     ensures { λ r.
         ⌜ crossed r (now (text .exit)) (now (records .exit)) (now (head .exit)) []
-        ≡ changeIn 0 (lentOf popOf) (now (text .entry)) (now (records .entry)) (now (head .entry)) [] ⌝ }
+        ≡ changeIn (lentOf popOf) (now (text .entry)) (now (records .entry)) (now (head .entry)) [] ⌝ }
 {
-    if !export_memory::has(head, HEAD) {
-        return WRONG;
-    }
     let h = export_memory::head_from(head);
     let out = scope_declare::pop_in(text, records, h);
     export_memory::left_head(head, out)
@@ -111,11 +111,8 @@ pub extern "C" fn mz_set_level(
 ) -> usize
     ensures { λ r.
         ⌜ crossed r (now (text .exit)) (now (records .exit)) (now (head .exit)) []
-        ≡ changeIn 0 (lentOf (levelOf to)) (now (text .entry)) (now (records .entry)) (now (head .entry)) [] ⌝ }
+        ≡ changeIn (lentOf (levelOf to)) (now (text .entry)) (now (records .entry)) (now (head .entry)) [] ⌝ }
 {
-    if !export_memory::has(head, HEAD) {
-        return WRONG;
-    }
     let h = export_memory::head_from(head);
     let out = scope_change::set_level_in(text, records, h, to);
     export_memory::left_head(head, out)
@@ -144,15 +141,9 @@ pub extern "C" fn mz_add<'p>(
 ) -> usize
     ensures { λ r.
         ⌜ crossed r (now (text .exit)) (now (records .exit)) (now (head .exit)) (now (detail .exit))
-        ≡ changeIn 2 (lentOf (addOf (declaredBy named) (now (prefix .entry)) (now (value .entry))))
+        ≡ changeIn (lentOf (addOf (declaredBy named) (now (prefix .entry)) (now (value .entry))))
         (now (text .entry)) (now (records .entry)) (now (head .entry)) (now (detail .entry)) ⌝ }
 {
-    if !export_memory::has(head, HEAD) {
-        return WRONG;
-    }
-    if !export_memory::has(detail, DETAIL) {
-        return WRONG;
-    }
     let h = export_memory::head_from(head);
     let out = scope_declare::add_in(text, records, h, declared_by(named), prefix, value);
     export_memory::left(head, detail, out)

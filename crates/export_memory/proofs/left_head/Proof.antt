@@ -12,12 +12,9 @@ put-head-requires c κs = search needs
 change-numbers-requires : tie.Need-change-numbers-requires
 change-numbers-requires c κs = search needs
 
-same-length : tie.Need-same-length
-same-length c = search needs
-
 returns : tie.Need-returns
 unfolding codeOf
-returns c = (ap (λ (x : Told). x .number) (c .change-numbers .ensures), c .before .before .before .put-head .ensures)
+returns c = (ap (λ (x : Told). x .number) (c .change-numbers .ensures), c .before .put-head .ensures)
 
 pub left-head-spec : {M : Type 1} → statement M
-left-head-spec = tie.close (tie.spec put-head-requires change-numbers-requires same-length returns)
+left-head-spec = tie.close (tie.spec put-head-requires change-numbers-requires returns)

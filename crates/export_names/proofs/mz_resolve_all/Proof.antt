@@ -1,4 +1,4 @@
--- `export_names::mz_resolve_all` meets its contract: a call comes back in five ways, each by its law (proofs/Calls), and after i
+-- `export_names::mz_resolve_all` meets its contract: a call comes back in four ways, each by its law (proofs/Calls), and after i
 -- turns each array has the numbers of the first i names (proofs/Written). The measure is what is left.
 use Prim.Native.Nat.{_-_}
 use mathlib.Core.Path.{_≡_, sym, _∙_}
@@ -6,9 +6,8 @@ use native.Mathlib.Omega.{arith}
 use lib.ListN.{length}
 use borrow.Author.Needs.{needs}
 use borrow.Author.Tests.{not-true, not-false}
-use Rattle.export_memory.proofs.Calls.{long, is-long, not-long}
 use Rattle.export_names.proofs.Written.{Filled, filled-none, filled-next}
-use Rattle.export_names.proofs.Calls.{alike-long, nth, names-head, names-unlike, names-inside, name-told, names-wrong, names-bad, names-good}
+use Rattle.export_names.proofs.Calls.{alike-long, nth, names-unlike, names-inside, name-told, names-wrong, names-bad, names-good}
 use Rattle.export_names.proofs.mz_resolve_all.Statement.{statement}
 use Rattle.export_names.proofs.mz_resolve_all.Tie as tie
 
@@ -18,14 +17,6 @@ Inv-loop text records head tag from to elements kinds₀ begins₀ ends₀ count
 
 abbrev μ-loop : tie.MeasureT-loop
 μ-loop text records head tag from to elements kinds₀ begins₀ ends₀ count i₀ kinds begins ends i = length from - i
-
-has-requires : tie.Need-has-requires Inv-loop μ-loop
-has-requires c κs = search needs
-
-returns : tie.Need-returns Inv-loop μ-loop
-returns c =
-    let a = c .before .before .before .before .before .before .before .before .before .before .before .args in
-    names-head (a .tag .now) (a .from .now) (a .to .now) (a .elements) (a .kinds .now) (a .begins .now) (a .ends .now) (a .text .now) (a .records .now) (a .head .now) (not-long (a .head .now) 4 (c .before .has .result) (c .before .has .ensures) (c .if1 .taken))
 
 alike-requires : tie.Need-alike-requires Inv-loop μ-loop
 alike-requires c κs = search needs
@@ -39,15 +30,13 @@ same-length-2 c = search needs
 same-length-3 : tie.Need-same-length-3 Inv-loop μ-loop
 same-length-3 c = search needs
 
-returns-2 : tie.Need-returns-2 Inv-loop μ-loop
-returns-2 c =
-    let a = c .before .before .before .before .before .before .before .before .before .before .before .before .before .before .before .before .args in
-    names-unlike (a .tag .now) (a .from .now) (a .to .now) (a .elements) (a .kinds .now) (a .begins .now) (a .ends .now) (a .text .now) (a .records .now) (a .head .now) (sym (c .before .alike .ensures) ∙ not-true (c .before .alike .result) (c .if2 .taken))
+returns : tie.Need-returns Inv-loop μ-loop
+returns c =
+    let a = c .before .before .before .before .before .before .before .before .before .before .before .before .before .args in
+    names-unlike (a .tag .now) (a .from .now) (a .to .now) (a .elements) (a .kinds .now) (a .begins .now) (a .ends .now) (a .text .now) (a .records .now) (a .head .now) (sym (c .before .alike .ensures) ∙ not-true (c .before .alike .result) (c .if1 .taken))
 
 head-from-requires : tie.Need-head-from-requires Inv-loop μ-loop
-head-from-requires c κs =
-    let a = c .before .before .before .before .before .before .before .before .before .before .before .before .before .before .before .before .before .args in
-    long (a .head .now) 4 (c .before .before .before .before .before .before .before .has .result) (c .before .before .before .before .before .before .before .has .ensures) (c .before .before .before .before .before .before .if1 .left)
+head-from-requires c κs = search needs
 
 form-in-requires : tie.Need-form-in-requires Inv-loop μ-loop
 form-in-requires c κs = search needs
@@ -67,10 +56,10 @@ same-length-5 c = search needs
 same-length-6 : tie.Need-same-length-6 Inv-loop μ-loop
 same-length-6 c = search needs
 
-returns-3 : tie.Need-returns-3 Inv-loop μ-loop
-returns-3 c =
-    let a = c .before .before .before .before .before .before .before .before .before .before .before .before .before .before .before .before .before .before .before .before .before .args in
-    names-bad (a .tag .now) (a .from .now) (a .to .now) (a .elements) (a .kinds .now) (a .begins .now) (a .ends .now) (a .text .now) (a .records .now) (a .head .now) (c .before .before .before .head-from .result) (c .before .before .before .head-from .ensures) (is-long (a .head .now) 4 (c .before .before .before .before .before .before .before .before .before .before .before .has .result) (c .before .before .before .before .before .before .before .before .before .before .before .has .ensures) (c .before .before .before .before .before .before .before .before .before .before .if1 .left)) (sym (c .before .before .before .before .before .before .alike .ensures) ∙ not-false (c .before .before .before .before .before .before .alike .result) (c .before .before .before .before .before .if2 .left)) (sym (c .before .before .form-in .ensures) ∙ c .enum-told2 .given .1)
+returns-2 : tie.Need-returns-2 Inv-loop μ-loop
+returns-2 c =
+    let a = c .before .before .before .before .before .before .before .before .before .before .before .before .before .before .before .before .before .args in
+    names-bad (a .tag .now) (a .from .now) (a .to .now) (a .elements) (a .kinds .now) (a .begins .now) (a .ends .now) (a .text .now) (a .records .now) (a .head .now) (c .before .before .before .head-from .result) (c .before .before .before .head-from .ensures) (sym (c .before .before .before .before .before .alike .ensures) ∙ not-false (c .before .before .before .before .before .alike .result) (c .before .before .before .before .if1 .left)) (sym (c .before .before .form-in .ensures) ∙ c .enum-told2 .given .1)
 
 enum-told-3 : tie.Need-enum-told-3 Inv-loop μ-loop
 enum-told-3 c = search needs
@@ -84,20 +73,20 @@ same-length-8 c = search needs
 same-length-9 : tie.Need-same-length-9 Inv-loop μ-loop
 same-length-9 c = search needs
 
-returns-4 : tie.Need-returns-4 Inv-loop μ-loop
-returns-4 c =
-    let a = c .before .before .before .before .before .before .before .before .before .before .before .before .before .before .before .before .before .before .before .before .before .args in
-    names-wrong (a .tag .now) (a .from .now) (a .to .now) (a .elements) (a .kinds .now) (a .begins .now) (a .ends .now) (a .text .now) (a .records .now) (a .head .now) (c .before .before .before .head-from .result) (c .before .before .before .head-from .ensures) (is-long (a .head .now) 4 (c .before .before .before .before .before .before .before .before .before .before .before .has .result) (c .before .before .before .before .before .before .before .before .before .before .before .has .ensures) (c .before .before .before .before .before .before .before .before .before .before .if1 .left)) (sym (c .before .before .before .before .before .before .alike .ensures) ∙ not-false (c .before .before .before .before .before .before .alike .result) (c .before .before .before .before .before .if2 .left)) (sym (c .before .before .form-in .ensures) ∙ c .enum-told3 .given .1)
+returns-3 : tie.Need-returns-3 Inv-loop μ-loop
+returns-3 c =
+    let a = c .before .before .before .before .before .before .before .before .before .before .before .before .before .before .before .before .before .args in
+    names-wrong (a .tag .now) (a .from .now) (a .to .now) (a .elements) (a .kinds .now) (a .begins .now) (a .ends .now) (a .text .now) (a .records .now) (a .head .now) (c .before .before .before .head-from .result) (c .before .before .before .head-from .ensures) (sym (c .before .before .before .before .before .alike .ensures) ∙ not-false (c .before .before .before .before .before .alike .result) (c .before .before .before .before .if1 .left)) (sym (c .before .before .form-in .ensures) ∙ c .enum-told3 .given .1)
 
 loop-holds : tie.Need-loop-holds Inv-loop μ-loop
 loop-holds c =
-    let a = c .before .before .before .before .before .before .before .before .before .before .before .before .before .before .before .before .before .before .before .before .before .args in
-    let l = alike-long (a .from .now) (a .to .now) (a .kinds .now) (a .begins .now) (a .ends .now) (sym (c .before .before .before .before .before .before .alike .ensures) ∙ not-false (c .before .before .before .before .before .before .alike .result) (c .before .before .before .before .before .if2 .left)) in
+    let a = c .before .before .before .before .before .before .before .before .before .before .before .before .before .before .before .before .before .args in
+    let l = alike-long (a .from .now) (a .to .now) (a .kinds .now) (a .begins .now) (a .ends .now) (sym (c .before .before .before .before .before .alike .ensures) ∙ not-false (c .before .before .before .before .before .alike .result) (c .before .before .before .before .if1 .left)) in
     filled-none (nth (a .tag .now) (a .from .now) (a .to .now) (a .elements) (a .kinds .now) (a .begins .now) (a .ends .now) (a .text .now) (a .records .now) (a .head .now)) (length (a .from .now)) (a .kinds .now) (a .begins .now) (a .ends .now) (l .kinds-long) (l .begins-long) (l .ends-long)
 
 mul-inside : tie.Need-mul-inside Inv-loop μ-loop
 mul-inside c =
-    let g = c .before .before .before .before .before .before .before .before .before .before .before .before .before .before .before .before .before .before .before .before .before .before .before .good in
+    let g = c .before .before .before .before .before .before .before .before .before .before .before .before .before .before .before .before .before .before .before .good in
     omega arith
 
 shared-slice-read-inside : tie.Need-shared-slice-read-inside Inv-loop μ-loop
@@ -105,13 +94,13 @@ shared-slice-read-inside c = omega arith
 
 mul-inside-2 : tie.Need-mul-inside-2 Inv-loop μ-loop
 mul-inside-2 c =
-    let g = c .before .before .before .before .before .before .before .before .before .before .before .before .before .before .before .before .before .before .before .before .before .before .before .before .good in
+    let g = c .before .before .before .before .before .before .before .before .before .before .before .before .before .before .before .before .before .before .before .before .good in
     omega arith
 
 shared-slice-read-inside-2 : tie.Need-shared-slice-read-inside-2 Inv-loop μ-loop
 shared-slice-read-inside-2 c =
-    let a = c .before .before .before .before .before .before .before .before .before .before .before .before .before .before .before .before .before .before .before .before .before .before .before .before .before .args in
-    let l = alike-long (a .from .now) (a .to .now) (a .kinds .now) (a .begins .now) (a .ends .now) (sym (c .before .before .before .before .before .before .before .before .before .before .alike .ensures) ∙ not-false (c .before .before .before .before .before .before .before .before .before .before .alike .result) (c .before .before .before .before .before .before .before .before .before .if2 .left)) in
+    let a = c .before .before .before .before .before .before .before .before .before .before .before .before .before .before .before .before .before .before .before .before .before .args in
+    let l = alike-long (a .from .now) (a .to .now) (a .kinds .now) (a .begins .now) (a .ends .now) (sym (c .before .before .before .before .before .before .before .before .before .alike .ensures) ∙ not-false (c .before .before .before .before .before .before .before .before .before .alike .result) (c .before .before .before .before .before .before .before .before .if1 .left)) in
     omega arith
 
 inside-requires : tie.Need-inside-requires Inv-loop μ-loop
@@ -119,7 +108,7 @@ inside-requires c κs = search needs
 
 name-among-requires : tie.Need-name-among-requires Inv-loop μ-loop
 name-among-requires c κs =
-    let a = c .before .before .before .before .before .before .before .before .before .before .before .before .before .before .before .before .before .before .before .before .before .before .before .before .before .before .args in
+    let a = c .before .before .before .before .before .before .before .before .before .before .before .before .before .before .before .before .before .before .before .before .before .before .args in
     names-inside (a .tag .now) (a .from .now) (a .to .now) (a .elements) (a .kinds .now) (a .begins .now) (a .ends .now) (a .text .now) (a .records .now) (a .head .now) (c .before .before .before .before .before .before .before .before .head-from .result) (c .before .before .before .before .before .before .before .before .head-from .ensures) (sym (c .before .before .before .before .before .before .before .form-in .ensures) ∙ c .before .before .before .before .before .enum-told .given .1)
 
 resolved-numbers-requires : tie.Need-resolved-numbers-requires Inv-loop μ-loop
@@ -127,7 +116,7 @@ resolved-numbers-requires c κs = search needs
 
 mul-kinds : tie.Need-mul-kinds Inv-loop μ-loop
 mul-kinds c =
-    let g = c .before .before .before .before .before .before .before .before .before .before .before .before .before .before .before .before .before .before .before .before .before .before .before .before .before .before .before .before .good in
+    let g = c .before .before .before .before .before .before .before .before .before .before .before .before .before .before .before .before .before .before .before .before .before .before .before .before .good in
     omega arith
 
 slice-write-kinds : tie.Need-slice-write-kinds Inv-loop μ-loop
@@ -135,7 +124,7 @@ slice-write-kinds c = omega arith
 
 mul-begins : tie.Need-mul-begins Inv-loop μ-loop
 mul-begins c =
-    let g = c .before .before .before .before .before .before .before .before .before .before .before .before .before .before .before .before .before .before .before .before .before .before .before .before .before .before .before .before .good in
+    let g = c .before .before .before .before .before .before .before .before .before .before .before .before .before .before .before .before .before .before .before .before .before .before .before .before .good in
     omega arith
 
 slice-write-begins : tie.Need-slice-write-begins Inv-loop μ-loop
@@ -143,7 +132,7 @@ slice-write-begins c = omega arith
 
 mul-ends : tie.Need-mul-ends Inv-loop μ-loop
 mul-ends c =
-    let g = c .before .before .before .before .before .before .before .before .before .before .before .before .before .before .before .before .before .before .before .before .before .before .before .before .before .before .before .before .good in
+    let g = c .before .before .before .before .before .before .before .before .before .before .before .before .before .before .before .before .before .before .before .before .before .before .before .before .good in
     omega arith
 
 slice-write-ends : tie.Need-slice-write-ends Inv-loop μ-loop
@@ -151,7 +140,7 @@ slice-write-ends c = omega arith
 
 add-i : tie.Need-add-i Inv-loop μ-loop
 add-i c =
-    let g = c .before .before .before .before .before .before .before .before .before .before .before .before .before .before .before .before .before .before .before .before .before .before .before .before .before .before .before .before .good in
+    let g = c .before .before .before .before .before .before .before .before .before .before .before .before .before .before .before .before .before .before .before .before .before .before .before .before .good in
     omega arith
 
 loop-less : tie.Need-loop-less Inv-loop μ-loop
@@ -159,7 +148,7 @@ loop-less c = omega arith
 
 loop-again : tie.Need-loop-again Inv-loop μ-loop
 loop-again c =
-    let a = c .before .before .before .before .before .before .before .before .before .before .before .before .before .before .before .before .before .before .before .before .before .before .before .before .before .before .before .before .args in
+    let a = c .before .before .before .before .before .before .before .before .before .before .before .before .before .before .before .before .before .before .before .before .before .before .before .before .args in
     let l = c .before .before .before .before .before .before .loop in
     filled-next (nth (a .tag .now) (a .from .now) (a .to .now) (a .elements) (a .kinds .now) (a .begins .now) (a .ends .now) (a .text .now) (a .records .now) (a .head .now)) (length (a .from .now)) (a .kinds .now) (a .begins .now) (a .ends .now) (l .kinds) (l .begins) (l .ends) (l .i) (l .inv) (omega arith) _
     (name-told (a .tag .now) (a .from .now) (a .to .now) (a .elements) (a .kinds .now) (a .begins .now) (a .ends .now) (a .text .now) (a .records .now) (a .head .now) (c .before .before .before .before .before .before .before .before .before .before .head-from .result) (c .before .before .before .before .before .before .before .before .before .before .head-from .ensures) (sym (c .before .before .before .before .before .before .before .before .before .form-in .ensures) ∙ c .before .before .before .before .before .before .before .enum-told .given .1) (l .i) _ (c .before .before .inside .ensures) _ (c .before .name-among .ensures) _ (c .resolved-numbers .ensures))
@@ -173,11 +162,11 @@ same-length-11 c = c .before .loop .inv .begins-part .kept
 same-length-12 : tie.Need-same-length-12 Inv-loop μ-loop
 same-length-12 c = c .before .loop .inv .ends-part .kept
 
-returns-5 : tie.Need-returns-5 Inv-loop μ-loop
-returns-5 c =
-    let a = c .before .before .before .before .before .before .before .before .before .before .before .before .before .before .before .before .before .before .before .before .before .before .before .args in
+returns-4 : tie.Need-returns-4 Inv-loop μ-loop
+returns-4 c =
+    let a = c .before .before .before .before .before .before .before .before .before .before .before .before .before .before .before .before .before .before .before .args in
     let l = c .before .loop in
-    names-good (a .tag .now) (a .from .now) (a .to .now) (a .elements) (a .kinds .now) (a .begins .now) (a .ends .now) (a .text .now) (a .records .now) (a .head .now) (c .before .before .before .before .before .head-from .result) (c .before .before .before .before .before .head-from .ensures) (is-long (a .head .now) 4 (c .before .before .before .before .before .before .before .before .before .before .before .before .before .has .result) (c .before .before .before .before .before .before .before .before .before .before .before .before .before .has .ensures) (c .before .before .before .before .before .before .before .before .before .before .before .before .if1 .left)) (sym (c .before .before .before .before .before .before .before .before .alike .ensures) ∙ not-false (c .before .before .before .before .before .before .before .before .alike .result) (c .before .before .before .before .before .before .before .if2 .left)) (sym (c .before .before .before .before .form-in .ensures) ∙ c .before .before .enum-told .given .1) (l .kinds) (l .begins) (l .ends) (l .i) (l .inv) (omega arith)
+    names-good (a .tag .now) (a .from .now) (a .to .now) (a .elements) (a .kinds .now) (a .begins .now) (a .ends .now) (a .text .now) (a .records .now) (a .head .now) (c .before .before .before .before .before .head-from .result) (c .before .before .before .before .before .head-from .ensures) (sym (c .before .before .before .before .before .before .before .alike .ensures) ∙ not-false (c .before .before .before .before .before .before .before .alike .result) (c .before .before .before .before .before .before .if1 .left)) (sym (c .before .before .before .before .form-in .ensures) ∙ c .before .before .enum-told .given .1) (l .kinds) (l .begins) (l .ends) (l .i) (l .inv) (omega arith)
 
 pub mz-resolve-all-spec : {M : Type 1} → statement M
 mz-resolve-all-spec =
@@ -185,13 +174,11 @@ mz-resolve-all-spec =
     (tie.spec
     Inv-loop
     μ-loop
-    has-requires
-    returns
     alike-requires
     same-length
     same-length-2
     same-length-3
-    returns-2
+    returns
     head-from-requires
     form-in-requires
     enum-told
@@ -199,12 +186,12 @@ mz-resolve-all-spec =
     same-length-4
     same-length-5
     same-length-6
-    returns-3
+    returns-2
     enum-told-3
     same-length-7
     same-length-8
     same-length-9
-    returns-4
+    returns-3
     loop-holds
     mul-inside
     shared-slice-read-inside
@@ -225,4 +212,4 @@ mz-resolve-all-spec =
     same-length-10
     same-length-11
     same-length-12
-    returns-5)
+    returns-4)
