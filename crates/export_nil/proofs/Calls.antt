@@ -1,0 +1,33 @@
+-- A search across the boundary is the search on lent memory, with the iterator's numbers and the answer's number written.
+use Prim.Native.Nat.{ℕ}
+use mathlib.Core.Path.{_≡_, ap, _∙_}
+use mathlib.Core.Bool.{Bool}
+use mathlib.Core.List.{List}
+use lib.ListN.{length, getD}
+use Rattle.attributes.specs.declared.Place.{Place}
+use Rattle.scope_table.specs.declared.Head.{Head}
+use Rattle.scope_nil.specs.declared.HasNil.{HasNil}
+use Rattle.scope_nil.specs.declared.Left.{Left}
+use Rattle.scope_nil.specs.declared.Standing.{Standing}
+use Rattle.scope_nil.specs.Nil.{standsAt, leftBy, hasNilIn}
+use Rattle.cursor.specs.Cursor.{placeFrom, settledOf, heldIn}
+use Rattle.export_memory.specs.Boundary.{headIn}
+use Rattle.export_nil.specs.Search.{nilNumber, found, foundOf, hasNilBy}
+
+module _ (text records head tag keyStarts keyEnds state : List ℕ) (html checks : Bool) where
+  -- the iterator in these numbers, at a place
+  abbrev standing : Place → Standing
+  standing place = record { place = place; html = html; checks = checks; count = getD state 2 0 }
+
+  pub nil-made : (h : Head) (place : Place) (out : Left) (keyStarts′ keyEnds′ state′ : List ℕ) (r : ℕ) →
+      h ≡ headIn head → place ≡ placeFrom (length tag) (getD state 0 0) (getD state 1 0) →
+      leftBy (standing place) out keyStarts′ keyEnds′ ≡ hasNilIn tag (standsAt (standing place) keyStarts keyEnds) text records h →
+      state′ ≡ settledOf state place (out .place) (out .count) → r ≡ nilNumber (out .answer) →
+      found r keyStarts′ keyEnds′ state′ ≡ hasNilBy text records head tag keyStarts keyEnds state html checks
+  unfolding foundOf hasNilBy heldIn
+  nil-made h place out keyStarts′ keyEnds′ state′ r read at made left number =
+      ap (λ (x : List ℕ). found r keyStarts′ keyEnds′ x) left
+      ∙ ap (λ (k : ℕ). found k keyStarts′ keyEnds′ (settledOf state place (out .place) (out .count))) number
+      ∙ ap (foundOf state place) made
+      ∙ ap (λ (x : Head). foundOf state place (hasNilIn tag (standsAt (standing place) keyStarts keyEnds) text records x)) read
+      ∙ ap (λ (p : Place). foundOf state p (hasNilIn tag (standsAt (standing p) keyStarts keyEnds) text records (headIn head))) at

@@ -1,0 +1,77 @@
+// What the static library exports of what stands on both the iterator and the resolver: `has_nil`; and what one value says.
+// Each function hands what it is lent on to the crate that has the rule, and answers by a number; none asks anything of
+// its caller.
+use parts::Truth;
+use scope_nil::Nil;
+use scope_nil::Standing;
+ghost use mathlib.Core.Path.{_≡_};
+ghost use Rattle.parts.specs.Parts.{truthOf};
+ghost use Rattle.export_nil.specs.Search.{truthNumber, nilNumber, found, hasNilBy};
+
+// The number of what a value says.
+fn truth_number(truth: Truth) -> usize
+    ensures { λ r. ⌜ r ≡ truthNumber truth ⌝ }
+{
+    match truth {
+        Truth::No => 0,
+        Truth::Yes => 1,
+        Truth::Neither => 2,
+    }
+}
+
+// What a value says: `parts::as_bool`. 0 a no, 1 a yes, 2 neither.
+#[no_mangle]
+pub extern "C" fn mz_as_bool(value: &[u8]) -> usize
+    ensures { λ r. ⌜ r ≡ truthNumber (truthOf (now (value .entry))) ⌝ }
+{
+    truth_number(parts::as_bool(value))
+}
+
+// The number of an answer: 0 a no and 1 a yes; a refusal has its own.
+fn nil_number(answer: Nil) -> usize
+    ensures { λ r. ⌜ r ≡ nilNumber answer ⌝ }
+{
+    match answer {
+        Nil::No => 0,
+        Nil::Yes => 1,
+        Nil::BadState => 7,
+        Nil::BadResolver => 20,
+        Nil::LendMore => 98,
+        Nil::WrongLength => 99,
+    }
+}
+
+// Whether an attribute from here on says that the element is nil: `scope_nil::has_nil_in`. The resolver is lent as to
+// `mz_resolve`, the iterator as to `mz_read_batch`, but that its fourth number is left alone; it is left after the attribute
+// that was a yes, or after the end. 0 no, 1 yes, 7, 20, 98, 99.
+#[no_mangle]
+pub extern "C" fn mz_has_nil<'k, 't>(
+    text: &'t [u8],
+    records: &'t [usize],
+    head: &'t [usize; 4],
+    tag: &[u8],
+    key_starts: &'k mut [usize],
+    key_ends: &'k mut [usize],
+    state: &mut [usize; 4],
+    html: bool,
+    checks: bool,
+) -> usize
+    ensures { λ r.
+        ⌜ found r (now («key_starts» .exit)) (now («key_ends» .exit)) (now (state .exit))
+        ≡ hasNilBy (now (text .entry)) (now (records .entry)) (now (head .entry)) (now (tag .entry))
+        (now («key_starts» .entry)) (now («key_ends» .entry)) (now (state .entry)) html checks ⌝ }
+{
+    let h = export_memory::head_from(head);
+    let place = cursor::place_from(tag.len(), state[0], state[1]);
+    let at = Standing {
+        place: place,
+        html: html,
+        checks: checks,
+        count: state[2],
+    };
+    let out = scope_nil::has_nil_in(tag, key_starts, key_ends, at, text, records, h);
+    let left = out.place;
+    cursor::settle(state, place, left, out.count);
+    let answer = out.answer;
+    nil_number(answer)
+}
