@@ -1,2 +1,4 @@
 pub mod Laws
 pub mod Padded
+pub mod Whole
+pub mod Numbers
