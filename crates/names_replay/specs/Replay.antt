@@ -1,9 +1,8 @@
--- What a replay counts: the records from the start on whose answers are those of the definitions of `name`, up to the
--- first that differs or is cut short.
-use Prim.Native.Nat.{ℕ, zero, suc, _+_, _-_, _*_}
+-- What a record of a name is, and when its answers are those of the definitions of `name`.
+use Prim.Native.Nat.{ℕ, _+_, _-_}
 use mathlib.Core.Bool.{Bool, _&&_}
 use mathlib.Core.List.{List}
-use lib.ListN.{length, drop, getD}
+use lib.ListN.{length, drop}
 use lib.Dec.{eqb, ltb}
 use Rattle.scan.specs.First.{pick}
 use Rattle.scan.specs.Bytes.{part}
@@ -12,18 +11,11 @@ use Rattle.name.specs.Reserved.{isXml, isXmlns}
 use Rattle.name.specs.Declares.{declaresOf, declaresNumber, declaredPrefix}
 use Rattle.name.specs.declared.Colon.{Colon}
 use Rattle.name.specs.declared.Colon.the-variants.{At, Nowhere}
-use Rattle.names_replay.specs.declared.Step.{Step}
-use Rattle.names_replay.specs.declared.Step.the-variants.{Agrees, Differs, Cut}
-use Rattle.names_replay.specs.declared.End.{End}
-use Rattle.names_replay.specs.declared.End.the-variants.{All, Differs as DiffersAt, Cut as CutAt}
-use Rattle.names_replay.specs.declared.Replayed.{Replayed}
-
-abbrev pub byteAt : List ℕ → ℕ → ℕ
-byteAt s at = getD s at 0
-
--- a number of two bytes, the lower one first
-abbrev pub twoAt : List ℕ → ℕ → ℕ
-twoAt s at = byteAt s at + 256 * byteAt s (at + 1)
+use Rattle.replay.specs.declared.Step.{Step}
+use Rattle.replay.specs.declared.Step.the-variants.{Agrees, Differs, Cut}
+use Rattle.replay.specs.declared.Replayed.{Replayed}
+use Rattle.replay.specs.Numbers.{byteAt, twoAt}
+use Rattle.replay.specs.Run.{replayEach}
 
 -- the index of the first colon, 65,535 for none
 abbrev pub numberOfColon : Colon → ℕ
@@ -58,31 +50,7 @@ unfoldable pub recordOf : List ℕ → Step
 recordOf rest =
     pick (ltb (length rest) 9) Cut
     (pick (ltb (length rest - 9) (twoAt rest 0)) Cut
-    (pick (agreesWith (part rest 2 (2 + twoAt rest 0)) (drop (2 + twoAt rest 0) rest)) (Agrees (9 + twoAt rest 0)) Differs))
-
--- the bytes that a step passes
-abbrev pub sizeOf : Step → ℕ
-sizeOf (Agrees size) = size
-sizeOf Differs = 0
-sizeOf Cut = 0
-
-abbrev pub stopped : ℕ → End → Replayed
-stopped names end = record { names = names; end = end }
-
--- a record that agrees is counted, and the later ones decide; any other ends the run where it stands
-abbrev pub follow : Step → (at names : ℕ) → (later : Replayed) → Replayed
-follow (Agrees size) at names later = later
-follow Differs at names later = stopped names (DiffersAt at)
-follow Cut at names later = stopped names (CutAt at)
-
--- The run from a place on, with so many names counted. A record has bytes, so that the turns do not run out when they
--- start as the length.
-unfoldable pub replayFrom : (turns : ℕ) → List ℕ → (at names : ℕ) → Replayed
-replayFrom zero s at names = stopped names All
-replayFrom (suc turns) s at names =
-    pick (ltb at (length s))
-    (follow (recordOf (drop at s)) at names (replayFrom turns s (at + sizeOf (recordOf (drop at s))) (names + 1)))
-    (stopped names All)
+    (pick (agreesWith (part rest 2 (2 + twoAt rest 0)) (drop (2 + twoAt rest 0) rest)) (Agrees (9 + twoAt rest 0) 0 0) Differs))
 
 unfoldable pub replayOf : List ℕ → Replayed
-replayOf s = replayFrom (length s) s 0 0
+replayOf s = replayEach recordOf s

@@ -8,46 +8,12 @@
 // prefix; then where that prefix starts, 0 for none; then whether the part before the colon is `xml`, and `xmlns`, 0
 // where there is no colon. What is counted is `replayOf`, specs/Replay.antt.
 use name::Colon;
+use replay::Replayed;
+use replay::Step;
 ghost use mathlib.Core.Path.{_≡_};
-ghost use Prim.Native.Nat.{_+_, _≤_, _<_};
+ghost use Prim.Native.Nat.{_≤_};
 ghost use lib.ListN.{length};
-ghost use Rattle.names_replay.specs.Replay.{byteAt, twoAt, colonNumber, startNumber, xmlNumber, xmlnsNumber, agreesWith, recordOf, replayOf};
-
-// What stands at the front of some bytes.
-enum Step {
-    // a whole record of that many bytes, whose answers are ours
-    Agrees(usize),
-    // one whose answers are not
-    Differs,
-    // too few bytes for one
-    Cut,
-}
-
-// Where a replay stops.
-enum End {
-    All,
-    Differs(usize),
-    Cut(usize),
-}
-
-struct Replayed {
-    names: usize,
-    end: End,
-}
-
-fn wide(b: u8) -> usize
-    ensures { λ r. ⌜ r ≡ b ⌝ }
-{
-    b as usize
-}
-
-// The number of two bytes at a place.
-fn two_at(s: &[u8], at: usize) -> usize
-    requires { ⌜ at + 1 < length (now s) ⌝ }
-    ensures { λ r. ⌜ r ≡ twoAt (now (s .entry)) at ⌝ }
-{
-    wide(s[at]) + 256 * wide(s[at + 1])
-}
+ghost use Rattle.names_replay.specs.Replay.{colonNumber, startNumber, xmlNumber, xmlnsNumber, agreesWith, recordOf, replayOf};
 
 fn colon_number(name: &[u8]) -> usize
     ensures { λ r. ⌜ r ≡ colonNumber (now (name .entry)) ⌝ }
@@ -93,19 +59,19 @@ fn agrees(name: &[u8], recorded: &[u8]) -> bool
     requires { ⌜ 7 ≤ length (now recorded) ⌝ }
     ensures { λ r. ⌜ r ≡ agreesWith (now (name .entry)) (now (recorded .entry)) ⌝ }
 {
-    if two_at(recorded, 0) != colon_number(name) {
+    if !replay::is_two(recorded, 0, colon_number(name)) {
         return false;
     }
-    if wide(recorded[2]) != name::as_namespace_binding(name).number() {
+    if !replay::is_byte(recorded, 2, name::as_namespace_binding(name).number()) {
         return false;
     }
-    if two_at(recorded, 3) != start_number(name) {
+    if !replay::is_two(recorded, 3, start_number(name)) {
         return false;
     }
-    if wide(recorded[5]) != xml_number(name) {
+    if !replay::is_byte(recorded, 5, xml_number(name)) {
         return false;
     }
-    wide(recorded[6]) == xmlns_number(name)
+    replay::is_byte(recorded, 6, xmlns_number(name))
 }
 
 fn record_of(rest: &[u8]) -> Step
@@ -114,13 +80,13 @@ fn record_of(rest: &[u8]) -> Step
     if rest.len() < 9 {
         return Step::Cut;
     }
-    let n = two_at(rest, 0);
+    let n = replay::number_at(rest, 0);
     if rest.len() - 9 < n {
         return Step::Cut;
     }
     let to = 2 + n;
     if agrees(&rest[2..to], &rest[to..]) {
-        return Step::Agrees(9 + n);
+        return Step::Agrees(9 + n, 0, 0);
     }
     Step::Differs
 }
@@ -129,58 +95,25 @@ fn record_of(rest: &[u8]) -> Step
 fn replay(records: &[u8]) -> Replayed
     ensures { λ r. ⌜ r ≡ replayOf (now (records .entry)) ⌝ }
 {
-    let mut at = 0;
-    let mut names = 0;
-    while at < records.len() {
+    let mut run = replay::begun();
+    while run.at < records.len() {
+        let at = run.at;
         let step = record_of(&records[at..]);
-        match step {
-            Step::Agrees(size) => {
-                at += size;
-                names += 1;
-            }
-            Step::Differs => return Replayed {
-                names: names,
-                end: End::Differs(at),
-            },
-            Step::Cut => return Replayed {
-                names: names,
-                end: End::Cut(at),
-            },
-        }
+        run = replay::after(run, step, records.len());
     }
-    Replayed {
-        names: names,
-        end: End::All,
-    }
+    run
 }
 
-fn show(replayed: Replayed) {
-    io::write_all(1, b"names ");
-    io::print_decimal(1, replayed.names as u64);
-    let end = replayed.end;
-    match end {
-        End::All => {
-            io::write_all(1, b", all as recorded\n");
-        }
-        End::Differs(at) => {
-            io::write_all(1, b" as recorded, and one that is not at byte ");
-            io::print_decimal(1, at as u64);
-            io::write_all(1, b"\n");
-        }
-        End::Cut(at) => {
-            io::write_all(1, b" as recorded, and no whole record at byte ");
-            io::print_decimal(1, at as u64);
-            io::write_all(1, b"\n");
-        }
-    }
+fn show(run: Replayed) {
+    replay::say(b"names ", run.records);
+    let end = run.end;
+    replay::say_end(end, b"one");
 }
 
 fn main() {
-    let mut buffer = io::large_buffer();
+    let mut buffer = replay::room();
     let n = io::read_full(0, &mut buffer);
-    let mut one = [0u8; 1];
-    if io::read_full(0, &mut one) > 0 {
-        io::write_all(1, b"too long\n");
+    if replay::too_long() {
         return;
     }
     show(replay(&buffer[..n]));

@@ -1,4 +1,4 @@
--- The laws of the replay: tests joined by `&&`, the lengths of a record, what a call counts, and one turn of the run.
+-- The laws of a record of a call: its lengths, what it counts, and what it passes.
 use Prim.Native.Nat.{ℕ, zero, suc, _+_, _-_, _≤_, _<_}
 use mathlib.Core.Path.{_≡_, refl, sym, ap, _∙_}
 use mathlib.Core.Bool.{Bool, true, false, _&&_}
@@ -10,7 +10,8 @@ use borrow.Author.Tests.{lt-ltb, le-ltb, ltb-false}
 use Rattle.scan.specs.First.{pick}
 use Rattle.scan.specs.Bytes.{part}
 use Rattle.scan.proofs.Lists.{to-end}
-use Rattle.scope_table.specs.Table.{freshOf}
+use Rattle.replay.specs.Numbers.{twoAt}
+use Rattle.replay.proofs.Turns.{Passes, passes-agrees, passes-differs, passes-cut, passes-pick}
 use Rattle.scope_table.specs.declared.NamespaceResolver.{NamespaceResolver}
 use Rattle.scope_listing.specs.declared.Listed.{Listed}
 use Rattle.scope_listing.specs.declared.Listed.the-variants as Shown
@@ -18,12 +19,8 @@ use Rattle.replay_scopes.specs.declared.Call.{Call}
 use Rattle.replay_scopes.specs.declared.Call.the-variants.{Fresh, AddDefault, AddNamed, Push, Pop, SetLevel, SetLimit, ResolveAttribute, ResolveElement, Bindings, BindingsOf}
 use Rattle.replay_scopes.specs.declared.Lengths.{Lengths}
 use Rattle.replay_scopes.specs.declared.Lengths.the-variants.{Whole, Cut}
-use Rattle.replay_scopes.specs.declared.Step.{Step}
-use Rattle.replay_scopes.specs.declared.Step.the-variants as At
-use Rattle.replay_scopes.specs.declared.Turn.{Turn}
-use Rattle.replay_scopes.specs.declared.End.the-variants as Stop
 use Rattle.replay_scopes.specs.Calls.{callOf, shownIn, changedBy, resetTo, lookedUp, listedAs, madeOf}
-use Rattle.replay_scopes.specs.Replay.{twoAt, sameSaid, sameLeft, lengthsOf, heldTo, turnOf, turnAt, recordOf, sizeOf, namesOf, bindingsOf, stopped, follow, replayFrom, replayOf}
+use Rattle.replay_scopes.specs.Replay.{sameSaid, sameLeft, lengthsOf, heldTo, turnOf, turnAt, recordOf}
 
 -- what is at least k and not k, and what is none of the first ten calls
 pub next : (k n : ℕ) → k ≤ n → (n ≡ k → ⊥) → k + 1 ≤ n
@@ -103,72 +100,19 @@ counts x ResolveElement a b s t = (omega arith, omega arith)
 counts x Bindings a b s t = (omega arith, one-shown _)
 counts x BindingsOf a b s t = (omega arith, one-shown _)
 
--- a record that agrees
-picked : (t : Bool) (k a b size n m : ℕ) → pick t (At.Agrees k a b) At.Differs ≡ At.Agrees size n m → (k ≡ size) × (a ≡ n) × (b ≡ m)
-picked true k a b size n m h = (cc, cc, cc)
-picked false k a b size n m h = let z : _≡_ {A = ℕ} 0 1 = cc in absurd (omega arith)
-
-pub record Passed (size names bindings most : ℕ) : Type 0 where
-  pub some : 27 ≤ size
-  pub there : size ≤ most
-  pub few : names ≤ 1
-  pub shown : bindings ≤ 1
-
-turn-size : (x : NamespaceResolver) (rest : List ℕ) (l : Lengths) {size n m : ℕ} → lengthsOf rest ≡ l → turnAt l x rest .step ≡ At.Agrees size n m → Passed size n m (length rest)
+-- A record that agrees has at least 27 bytes, and they are all there.
+turn-passes : (x : NamespaceResolver) (rest : List ℕ) (l : Lengths) → lengthsOf rest ≡ l → Passes (turnAt l x rest .step) (length rest)
 unfolding turnAt turnOf heldTo
-turn-size x rest (Whole k l) {size} {n} {m} e h =
+turn-passes x rest (Whole k l) e =
     let f = whole-fits rest e in
     let call = callOf (getD rest 0 0) in
     let s = part rest 7 (7 + k) in
     let t = part rest (9 + k) (9 + k + l) in
     let c = counts x call (twoAt rest 1) (twoAt rest 3) s t in
     let made = madeOf x call (twoAt rest 1) (twoAt rest 3) s t in
-    let p = picked (sameSaid (made .said) (drop (9 + k + l) rest) && sameLeft (made .resolver .head .used) (made .resolver .head .count) (made .resolver .head .level) (drop (9 + k + l) rest)) (18 + (9 + k + l)) (made .names) (made .bindings) size n m h in
-    let g : 18 + (9 + k + l) ≡ size = p .0 in
-    let i : made .names ≡ n = p .1 in
-    let j : made .bindings ≡ m = p .2 in
-    record { some = omega arith; there = omega arith; few = omega arith; shown = omega arith }
-turn-size x rest Cut e h = let z : _≡_ {A = ℕ} 0 1 = cc in absurd (omega arith)
+    passes-pick (sameSaid (made .said) (drop (9 + k + l) rest) && sameLeft (made .resolver .head .used) (made .resolver .head .count) (made .resolver .head .level) (drop (9 + k + l) rest)) (λ y. passes-agrees (omega arith) (omega arith) (omega arith) (omega arith)) (λ y. passes-differs)
+turn-passes x rest Cut e = passes-cut
 
-pub record-size : (x : NamespaceResolver) (rest : List ℕ) {size n m : ℕ} → recordOf x rest .step ≡ At.Agrees size n m → Passed size n m (length rest)
+pub passes : (x : NamespaceResolver) (rest : List ℕ) → Passes (recordOf x rest .step) (length rest)
 unfolding recordOf
-record-size x rest h = turn-size x rest (lengthsOf rest) refl h
-
--- one turn of the run
-module _ (s : List ℕ) (x : NamespaceResolver) (at calls names bindings : ℕ) where
-  turn : at < length s → calls < length s → replayFrom (length s - calls) s x at calls names bindings ≡ follow (recordOf x (drop at s) .step) at calls names bindings (replayFrom (length s - (calls + 1)) s (recordOf x (drop at s) .resolver) (at + sizeOf (recordOf x (drop at s) .step)) (calls + 1) (names + namesOf (recordOf x (drop at s) .step)) (bindings + bindingsOf (recordOf x (drop at s) .step)))
-  unfolding replayFrom
-  turn a b =
-      let e : length s - calls ≡ suc (length s - (calls + 1)) = omega arith in
-      rw (e, lt-ltb at (length s) a)
-
-  -- what the code read is the record at the place
-  pub read-at : {r : Turn} → r ≡ recordOf x (take (length s - at) (drop at s)) → r ≡ recordOf x (drop at s)
-  read-at e = e ∙ ap (recordOf x) (to-end at s)
-
-  module _ {r : Turn} (e : r ≡ recordOf x (take (length s - at) (drop at s))) (a : at < length s) where
-    pub moves : {size n m : ℕ} → r .step ≡ At.Agrees size n m → Passed size n m (length s - at)
-    moves {size} {n} {m} h =
-        let z = record-size x (drop at s) (rw (read-at e) at h) in
-        let l = length-drop at s in
-        record { some = z .some; there = omega arith; few = z .few; shown = z .shown }
-
-    pub goes-on : {size n m : ℕ} → calls < length s → r .step ≡ At.Agrees size n m → replayFrom (length s - calls) s x at calls names bindings ≡ replayFrom (length s - (calls + 1)) s (r .resolver) (at + size) (calls + 1) (names + n) (bindings + m)
-    goes-on b h = turn a b ∙ rw (← read-at e, h)
-
-    pub differs : calls < length s → r .step ≡ At.Differs → replayFrom (length s - calls) s x at calls names bindings ≡ stopped calls names bindings (Stop.Differs at)
-    differs b h = turn a b ∙ rw (← read-at e, h)
-
-    pub ends-cut : calls < length s → r .step ≡ At.Cut → replayFrom (length s - calls) s x at calls names bindings ≡ stopped calls names bindings (Stop.Cut at)
-    ends-cut b h = turn a b ∙ rw (← read-at e, h)
-
-  pub ended : (turns : ℕ) → length s ≤ at → replayFrom turns s x at calls names bindings ≡ stopped calls names bindings Stop.All
-  unfolding replayFrom
-  ended zero h = refl
-  ended (suc turns) h = rw (le-ltb at (length s) h)
-
-pub starts : (s : List ℕ) → replayOf s ≡ replayFrom (length s - 0) s freshOf 0 0 0 0
-unfolding replayOf
-starts s =
-    let e : length s - 0 ≡ length s = omega arith in
-    rw e
+passes x rest = turn-passes x rest (lengthsOf rest) refl

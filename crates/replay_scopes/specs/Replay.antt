@@ -1,12 +1,16 @@
--- What a replay counts: the calls from the start on whose answers are those of the resolver's definitions, up to the
--- first that differs or is cut short.
-use Prim.Native.Nat.{ℕ, zero, suc, _+_, _-_, _*_}
+-- What a record of a call is, and when its answer is that of the resolver's definitions.
+use Prim.Native.Nat.{ℕ, _+_, _-_}
 use mathlib.Core.Bool.{Bool, _&&_}
 use mathlib.Core.List.{List}
 use lib.ListN.{length, drop, getD}
 use lib.Dec.{eqb, ltb}
 use Rattle.scan.specs.First.{pick}
 use Rattle.scan.specs.Bytes.{part}
+use Rattle.replay.specs.declared.Step.{Step}
+use Rattle.replay.specs.declared.Step.the-variants as At
+use Rattle.replay.specs.declared.Replayed.{Replayed}
+use Rattle.replay.specs.Numbers.{twoAt}
+use Rattle.replay.specs.Run.{replayOn}
 use Rattle.scope_table.specs.Table.{freshOf}
 use Rattle.scope_table.specs.declared.NamespaceResolver.{NamespaceResolver}
 use Rattle.replay_scopes.specs.Calls.{callOf, madeOf}
@@ -14,16 +18,7 @@ use Rattle.replay_scopes.specs.declared.Said.{Said}
 use Rattle.replay_scopes.specs.declared.Made.{Made}
 use Rattle.replay_scopes.specs.declared.Lengths.{Lengths}
 use Rattle.replay_scopes.specs.declared.Lengths.the-variants.{Whole, Cut}
-use Rattle.replay_scopes.specs.declared.Step.{Step}
-use Rattle.replay_scopes.specs.declared.Step.the-variants as At
 use Rattle.replay_scopes.specs.declared.Turn.{Turn}
-use Rattle.replay_scopes.specs.declared.End.{End}
-use Rattle.replay_scopes.specs.declared.End.the-variants as Stop
-use Rattle.replay_scopes.specs.declared.Replayed.{Replayed}
-
--- a number of two bytes, the lower one first
-abbrev pub twoAt : List ℕ → ℕ → ℕ
-twoAt s at = getD s at 0 + 256 * getD s (at + 1) 0
 
 -- An answer is the recorded one: its code and all five values.
 unfoldable pub sameSaid : Said → (recorded : List ℕ) → Bool
@@ -77,41 +72,6 @@ turnAt Cut x rest = turn At.Cut x
 unfoldable pub recordOf : NamespaceResolver → (rest : List ℕ) → Turn
 recordOf x rest = turnAt (lengthsOf rest) x rest
 
--- the bytes that a step passes, and the names and bindings in it
-abbrev pub sizeOf : Step → ℕ
-sizeOf (At.Agrees size names bindings) = size
-sizeOf At.Differs = 0
-sizeOf At.Cut = 0
-
-abbrev pub namesOf : Step → ℕ
-namesOf (At.Agrees size names bindings) = names
-namesOf At.Differs = 0
-namesOf At.Cut = 0
-
-abbrev pub bindingsOf : Step → ℕ
-bindingsOf (At.Agrees size names bindings) = bindings
-bindingsOf At.Differs = 0
-bindingsOf At.Cut = 0
-
-abbrev pub stopped : (calls names bindings : ℕ) → End → Replayed
-stopped calls names bindings end = record { calls = calls; names = names; bindings = bindings; end = end }
-
--- a call that agrees is counted, and the later ones decide; any other ends the run where it stands
-abbrev pub follow : Step → (at calls names bindings : ℕ) → (later : Replayed) → Replayed
-follow (At.Agrees size n b) at calls names bindings later = later
-follow At.Differs at calls names bindings later = stopped calls names bindings (Stop.Differs at)
-follow At.Cut at calls names bindings later = stopped calls names bindings (Stop.Cut at)
-
--- The run from a place on, with a resolver and what is counted so far. Each call acts on what the one before it has left.
--- A record has bytes, so that the turns do not run out when they start as the length.
-unfoldable pub replayFrom : (turns : ℕ) → List ℕ → NamespaceResolver → (at calls names bindings : ℕ) → Replayed
-replayFrom zero s x at calls names bindings = stopped calls names bindings Stop.All
-replayFrom (suc turns) s x at calls names bindings =
-    pick (ltb at (length s))
-    (follow (recordOf x (drop at s) .step) at calls names bindings
-    (replayFrom turns s (recordOf x (drop at s) .resolver) (at + sizeOf (recordOf x (drop at s) .step)) (calls + 1)
-    (names + namesOf (recordOf x (drop at s) .step)) (bindings + bindingsOf (recordOf x (drop at s) .step))))
-    (stopped calls names bindings Stop.All)
-
+-- Each call acts on what the one before it has left.
 unfoldable pub replayOf : List ℕ → Replayed
-replayOf s = replayFrom (length s) s freshOf 0 0 0 0
+replayOf s = replayOn (λ x rest. recordOf x rest .step) (λ x rest. recordOf x rest .resolver) s freshOf

@@ -9,6 +9,8 @@
 // goes from call to call by value, so that each contract is one equation on all of it. What is counted is `replayOf`,
 // specs/Replay.antt.
 use name::Declares;
+use replay::Replayed;
+use replay::Step;
 use scope_listing::Listed;
 use scope_listing::Listing;
 use scope_lookup::Resolved;
@@ -16,11 +18,10 @@ use scope_table::Changed;
 use scope_table::NamespaceResolver;
 use scope_table::NamespaceResult;
 ghost use mathlib.Core.Path.{_≡_};
-ghost use Prim.Native.Nat.{_+_, _*_, _≤_, _<_};
-ghost use lib.Dec.{eqb};
+ghost use Prim.Native.Nat.{_+_, _≤_};
 ghost use lib.ListN.{length};
 ghost use Rattle.replay_scopes.specs.Calls.{said, changeSaid, lookupSaid, placeAfter, listingSaid, shownIn, changedBy, resetTo, lookedUp, listedAs, callOf, madeOf};
-ghost use Rattle.replay_scopes.specs.Replay.{twoAt, sameSaid, sameLeft, lengthsOf, heldTo, turnOf, recordOf, stopped, replayOf};
+ghost use Rattle.replay_scopes.specs.Replay.{sameSaid, sameLeft, lengthsOf, heldTo, turnOf, recordOf, replayOf};
 
 // A recorded call, with what its numbers and texts are.
 enum Call {
@@ -70,62 +71,10 @@ enum Lengths {
     Cut,
 }
 
-// What stands at the front of some bytes.
-enum Step {
-    // a whole record of that many bytes, whose answer is ours, with its names and its bindings
-    Agrees(usize, usize, usize),
-    // one whose answer is not
-    Differs,
-    // too few bytes for one, or no call
-    Cut,
-}
-
-// That, and the resolver after it.
+// What stands at the front of some bytes, and the resolver after it.
 struct Turn {
     step: Step,
     resolver: NamespaceResolver,
-}
-
-// Where a replay stops.
-enum End {
-    All,
-    Differs(usize),
-    Cut(usize),
-}
-
-struct Replayed {
-    calls: usize,
-    names: usize,
-    bindings: usize,
-    end: End,
-}
-
-fn byte_wide(b: u8) -> u16
-    ensures { λ r. ⌜ r ≡ b ⌝ }
-{
-    b as u16
-}
-
-fn wide(n: u16) -> usize
-    ensures { λ r. ⌜ r ≡ n ⌝ }
-{
-    n as usize
-}
-
-// The number of two bytes at a place.
-fn two_at(s: &[u8], at: usize) -> u16
-    requires { ⌜ at + 1 < length (now s) ⌝ }
-    ensures { λ r. ⌜ r ≡ twoAt (now (s .entry)) at ⌝ }
-{
-    byte_wide(s[at]) + 256 * byte_wide(s[at + 1])
-}
-
-// Whether the number at a place is n.
-fn is_two(s: &[u8], at: usize, n: usize) -> bool
-    requires { ⌜ at + 1 < length (now s) ⌝ }
-    ensures { λ r. ⌜ r ≡ eqb (twoAt (now (s .entry)) at) n ⌝ }
-{
-    wide(two_at(s, at)) == n
 }
 
 fn call_of(number: u8) -> Call
@@ -281,14 +230,14 @@ fn make<'a>(
         Call::Fresh => reset_to(NamespaceResolver::fresh()),
         Call::AddDefault => changed_by(scope_declare::add(r, Declares::Default, first, second)),
         Call::AddNamed => changed_by(scope_declare::add(r, Declares::Named, first, second)),
-        Call::Push => changed_by(scope_push::push(r, first, wide(a))),
+        Call::Push => changed_by(scope_push::push(r, first, replay::wide(a))),
         Call::Pop => changed_by(scope_declare::pop(r)),
         Call::SetLevel => changed_by(scope_declare::set_level(r, a)),
-        Call::SetLimit => reset_to(scope_declare::set_max_namespace_bindings(r, wide(a))),
+        Call::SetLimit => reset_to(scope_declare::set_max_namespace_bindings(r, replay::wide(a))),
         Call::ResolveAttribute => looked_up(r, scope_lookup::resolve_attribute(r, first)),
         Call::ResolveElement => looked_up(r, scope_lookup::resolve_element(r, first)),
-        Call::Bindings => listed_as(r, scope_listing::bindings(r, wide(a))),
-        Call::BindingsOf => listed_as(r, scope_listing::bindings_of(r, b, wide(a))),
+        Call::Bindings => listed_as(r, scope_listing::bindings(r, replay::wide(a))),
+        Call::BindingsOf => listed_as(r, scope_listing::bindings_of(r, b, replay::wide(a))),
     }
 }
 
@@ -297,22 +246,22 @@ fn same_said(answer: Said, recorded: &[u8]) -> bool
     requires { ⌜ 18 ≤ length (now recorded) ⌝ }
     ensures { λ r. ⌜ r ≡ sameSaid answer (now (recorded .entry)) ⌝ }
 {
-    if !is_two(recorded, 0, answer.code) {
+    if !replay::is_two(recorded, 0, answer.code) {
         return false;
     }
-    if !is_two(recorded, 2, answer.first) {
+    if !replay::is_two(recorded, 2, answer.first) {
         return false;
     }
-    if !is_two(recorded, 4, answer.second) {
+    if !replay::is_two(recorded, 4, answer.second) {
         return false;
     }
-    if !is_two(recorded, 6, answer.third) {
+    if !replay::is_two(recorded, 6, answer.third) {
         return false;
     }
-    if !is_two(recorded, 8, answer.fourth) {
+    if !replay::is_two(recorded, 8, answer.fourth) {
         return false;
     }
-    is_two(recorded, 10, answer.fifth)
+    replay::is_two(recorded, 10, answer.fifth)
 }
 
 // Whether the text in use, the record count and the level are those that stand after it.
@@ -320,13 +269,13 @@ fn same_left(used: usize, count: usize, level: usize, recorded: &[u8]) -> bool
     requires { ⌜ 18 ≤ length (now recorded) ⌝ }
     ensures { λ r. ⌜ r ≡ sameLeft used count level (now (recorded .entry)) ⌝ }
 {
-    if !is_two(recorded, 12, used) {
+    if !replay::is_two(recorded, 12, used) {
         return false;
     }
-    if !is_two(recorded, 14, count) {
+    if !replay::is_two(recorded, 14, count) {
         return false;
     }
-    is_two(recorded, 16, level)
+    replay::is_two(recorded, 16, level)
 }
 
 // What a call of a record of so many bytes made is held against what is recorded.
@@ -364,11 +313,11 @@ fn lengths_of(rest: &[u8]) -> Lengths
     if 10 < rest[0] {
         return Lengths::Cut;
     }
-    let n = wide(two_at(rest, 5));
+    let n = replay::wide(replay::two_at(rest, 5));
     if rest.len() - 27 < n {
         return Lengths::Cut;
     }
-    let m = wide(two_at(rest, 7 + n));
+    let m = replay::wide(replay::two_at(rest, 7 + n));
     if rest.len() - 27 - n < m {
         return Lengths::Cut;
     }
@@ -386,8 +335,8 @@ fn turn_of(r: NamespaceResolver, rest: &[u8], n: usize, m: usize) -> Turn
     let made = make(
         r,
         call_of(rest[0]),
-        two_at(rest, 1),
-        two_at(rest, 3),
+        replay::two_at(rest, 1),
+        replay::two_at(rest, 3),
         &rest[7..to],
         &rest[from..end],
     );
@@ -407,83 +356,35 @@ fn record_of(r: NamespaceResolver, rest: &[u8]) -> Turn
     }
 }
 
-fn stop(calls: usize, names: usize, bindings: usize, end: End) -> Replayed
-    ensures { λ r. ⌜ r ≡ stopped calls names bindings end ⌝ }
-{
-    Replayed {
-        calls: calls,
-        names: names,
-        bindings: bindings,
-        end: end,
-    }
-}
-
 // How many records agree before the first that does not, and where that one is. A fresh resolver is there from the start.
 fn replay(records: &[u8]) -> Replayed
     ensures { λ r. ⌜ r ≡ replayOf (now (records .entry)) ⌝ }
 {
     let mut resolver = NamespaceResolver::fresh();
-    let mut at = 0;
-    let mut calls = 0;
-    let mut names = 0;
-    let mut bindings = 0;
-    while at < records.len() {
+    let mut run = replay::begun();
+    while run.at < records.len() {
+        let at = run.at;
         let turn = record_of(resolver, &records[at..]);
+        let left = turn.resolver;
         let step = turn.step;
-        match step {
-            Step::Agrees(size, resolved, shown) => {
-                let left = turn.resolver;
-                resolver = left;
-                at += size;
-                calls += 1;
-                names += resolved;
-                bindings += shown;
-            }
-            Step::Differs => return stop(calls, names, bindings, End::Differs(at)),
-            Step::Cut => return stop(calls, names, bindings, End::Cut(at)),
-        }
+        resolver = left;
+        run = replay::after(run, step, records.len());
     }
-    stop(calls, names, bindings, End::All)
+    run
 }
 
-fn show(replayed: Replayed) {
-    io::write_all(1, b"calls ");
-    io::print_decimal(1, replayed.calls as u64);
-    io::write_all(1, b", names ");
-    io::print_decimal(1, replayed.names as u64);
-    io::write_all(1, b", bindings ");
-    io::print_decimal(1, replayed.bindings as u64);
-    let end = replayed.end;
-    match end {
-        End::All => {
-            io::write_all(1, b", all as recorded\n");
-        }
-        End::Differs(at) => {
-            io::write_all(1, b" as recorded, and a call that is not at byte ");
-            io::print_decimal(1, at as u64);
-            io::write_all(1, b"\n");
-        }
-        End::Cut(at) => {
-            io::write_all(1, b" as recorded, and no whole record at byte ");
-            io::print_decimal(1, at as u64);
-            io::write_all(1, b"\n");
-        }
-    }
-}
-
-// Room for the records. The contract gives the length, which lending the array as a slice needs.
-fn room() -> [u8; 262144]
-    ensures { λ r. ⌜ 262144 ≡ length r ⌝ }
-{
-    [0; 262144]
+fn show(run: Replayed) {
+    replay::say(b"calls ", run.records);
+    replay::say(b", names ", run.names);
+    replay::say(b", bindings ", run.bindings);
+    let end = run.end;
+    replay::say_end(end, b"a call");
 }
 
 fn main() {
-    let mut buffer = room();
+    let mut buffer = replay::room();
     let n = io::read_full(0, &mut buffer);
-    let mut one = [0u8; 1];
-    if io::read_full(0, &mut one) > 0 {
-        io::write_all(1, b"too long\n");
+    if replay::too_long() {
         return;
     }
     show(replay(&buffer[..n]));

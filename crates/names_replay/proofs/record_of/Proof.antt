@@ -8,14 +8,14 @@ use Rattle.names_replay.proofs.record_of.Tie as tie
 returns : tie.Need-returns
 returns c = too-few (c .before .before .args .rest .now) (c .if1 .taken)
 
-two-at-requires : tie.Need-two-at-requires
-two-at-requires c κs = search needs
+number-at-requires : tie.Need-number-at-requires
+number-at-requires c κs = search needs
 
 sub-if2 : tie.Need-sub-if2
 sub-if2 c = search needs
 
 returns-2 : tie.Need-returns-2
-returns-2 c = name-cut (c .before .before .before .before .args .rest .now) (c .before .before .if1 .left) (c .before .two-at .ensures) (c .if2 .taken)
+returns-2 c = name-cut (c .before .before .before .before .args .rest .now) (c .before .before .if1 .left) (c .before .number-at .ensures) (c .if2 .taken)
 
 add-to : tie.Need-add-to
 add-to c = search needs
@@ -45,17 +45,17 @@ add-t14 : tie.Need-add-t14
 add-t14 c = search needs
 
 returns-3 : tie.Need-returns-3
-returns-3 c = whole (c .before .before .before .before .before .before .before .before .args .rest .now) (c .before .before .before .before .before .before .if1 .left) (c .before .before .before .before .before .two-at .ensures) (c .before .before .before .before .if2 .left) (sym (c .if3 .taken) ∙ c .before .agrees .ensures)
+returns-3 c = whole (c .before .before .before .before .before .before .before .before .args .rest .now) (c .before .before .before .before .before .before .if1 .left) (c .before .before .before .before .before .number-at .ensures) (c .before .before .before .before .if2 .left) (sym (c .if3 .taken) ∙ c .before .agrees .ensures)
 
 returns-4 : tie.Need-returns-4
-returns-4 c = whole (c .before .before .before .before .before .before .before .before .args .rest .now) (c .before .before .before .before .before .before .if1 .left) (c .before .before .before .before .before .two-at .ensures) (c .before .before .before .before .if2 .left) (sym (c .if3 .left) ∙ c .before .agrees .ensures)
+returns-4 c = whole (c .before .before .before .before .before .before .before .before .args .rest .now) (c .before .before .before .before .before .before .if1 .left) (c .before .before .before .before .before .number-at .ensures) (c .before .before .before .before .if2 .left) (sym (c .if3 .left) ∙ c .before .agrees .ensures)
 
 pub record-of-spec : {M : Type 1} → statement M
 record-of-spec =
     tie.close
     (tie.spec
     returns
-    two-at-requires
+    number-at-requires
     sub-if2
     returns-2
     add-to

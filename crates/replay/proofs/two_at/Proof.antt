@@ -1,9 +1,9 @@
--- `replay_scopes::two_at` meets its contract: a byte is below 256, so that the sum fits.
+-- `replay::two_at` meets its contract: a byte is below 256, so that the sum fits.
 use Prim.Native.Nat.{_+_}
 use native.Mathlib.Omega.{arith}
 use borrow.Author.Needs.{needs}
-use Rattle.replay_scopes.proofs.two_at.Statement.{statement}
-use Rattle.replay_scopes.proofs.two_at.Tie as tie
+use Rattle.replay.proofs.two_at.Statement.{statement}
+use Rattle.replay.proofs.two_at.Tie as tie
 
 shared-slice-read-byte-wide : tie.Need-shared-slice-read-byte-wide
 shared-slice-read-byte-wide c = search needs

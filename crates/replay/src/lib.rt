@@ -1,0 +1,181 @@
+// What the programs have in common that hold answers against recorded ones: the numbers of a record, lower byte first, the
+// run through the records, and the lines that say how it went. Each program has its own records, and says by a `Step` what
+// it makes of one. The definitions are in specs/Numbers.antt and specs/Run.antt.
+ghost use mathlib.Core.Path.{_≡_};
+ghost use Prim.Native.Nat.{_+_, _*_, _≤_, _<_};
+ghost use lib.Dec.{eqb};
+ghost use lib.ListN.{length};
+ghost use Rattle.scan.specs.Bytes.{sameBytes};
+ghost use Rattle.replay.specs.Numbers.{byteAt, twoAt, twosOf};
+ghost use Rattle.replay.specs.Run.{begunOf, stoppedOf, Fits, afterOf};
+
+// What stands at the front of some bytes.
+pub enum Step {
+    // a whole record of that many bytes, whose answers are ours; then what it adds to two counts, of names and of bindings
+    Agrees(usize, usize, usize),
+    // one whose answers are not
+    Differs,
+    // too few bytes for one, or none that can be read
+    Cut,
+}
+
+// Where a run stops.
+pub enum End {
+    All,
+    Differs(usize),
+    Cut(usize),
+}
+
+// A run: the place, what agreed before it, and how it ends. One that has stopped stands behind the last byte.
+pub struct Replayed {
+    pub at: usize,
+    pub records: usize,
+    pub names: usize,
+    pub bindings: usize,
+    pub end: End,
+}
+
+fn byte_wide(b: u8) -> u16
+    ensures { λ r. ⌜ r ≡ b ⌝ }
+{
+    b as u16
+}
+
+pub fn wide(n: u16) -> usize
+    ensures { λ r. ⌜ r ≡ n ⌝ }
+{
+    n as usize
+}
+
+// The number of two bytes at a place.
+pub fn two_at(s: &[u8], at: usize) -> u16
+    requires { ⌜ at + 1 < length (now s) ⌝ }
+    ensures { λ r. ⌜ r ≡ twoAt (now (s .entry)) at ⌝ }
+{
+    byte_wide(s[at]) + 256 * byte_wide(s[at + 1])
+}
+
+// The same as a length or an index.
+pub fn number_at(s: &[u8], at: usize) -> usize
+    requires { ⌜ at + 1 < length (now s) ⌝ }
+    ensures { λ r. ⌜ r ≡ twoAt (now (s .entry)) at ⌝ }
+{
+    wide(two_at(s, at))
+}
+
+// Whether the number at a place is n.
+pub fn is_two(s: &[u8], at: usize, n: usize) -> bool
+    requires { ⌜ at + 1 < length (now s) ⌝ }
+    ensures { λ r. ⌜ r ≡ eqb (twoAt (now (s .entry)) at) n ⌝ }
+{
+    number_at(s, at) == n
+}
+
+// Whether the byte at a place is n.
+pub fn is_byte(s: &[u8], at: usize, n: usize) -> bool
+    requires { ⌜ at < length (now s) ⌝ }
+    ensures { λ r. ⌜ r ≡ eqb (byteAt (now (s .entry)) at) n ⌝ }
+{
+    wide(byte_wide(s[at])) == n
+}
+
+// Whether numbers are those that are recorded at the front of some bytes.
+pub fn same_numbers(numbers: &[usize], recorded: &[u8]) -> bool
+    requires { ⌜ 2 * length (now numbers) ≤ length (now recorded) ⌝ }
+    ensures { λ r. ⌜ r ≡ sameBytes (now (numbers .entry)) (twosOf (length (now (numbers .entry))) (now (recorded .entry))) ⌝ }
+{
+    let mut i = 0;
+    while i < numbers.len() {
+        if numbers[i] != number_at(recorded, 2 * i) {
+            return false;
+        }
+        i += 1;
+    }
+    true
+}
+
+// A run that has read nothing.
+pub fn begun() -> Replayed
+    ensures { λ r. ⌜ r ≡ begunOf ⌝ }
+{
+    Replayed {
+        at: 0,
+        records: 0,
+        names: 0,
+        bindings: 0,
+        end: End::All,
+    }
+}
+
+// The same counts, and nothing left to read.
+fn stopped(run: Replayed, len: usize, end: End) -> Replayed
+    ensures { λ r. ⌜ r ≡ stoppedOf run len end ⌝ }
+{
+    Replayed {
+        at: len,
+        records: run.records,
+        names: run.names,
+        bindings: run.bindings,
+        end: end,
+    }
+}
+
+// The run after one more record of `len` bytes in all.
+pub fn after(run: Replayed, step: Step, len: usize) -> Replayed
+    requires { ⌜ Fits run step len ⌝ }
+    ensures { λ r. ⌜ r ≡ afterOf run step len ⌝ }
+{
+    match step {
+        Step::Agrees(size, names, bindings) => Replayed {
+            at: run.at + size,
+            records: run.records + 1,
+            names: run.names + names,
+            bindings: run.bindings + bindings,
+            end: End::All,
+        },
+        Step::Differs => stopped(run, len, End::Differs(run.at)),
+        Step::Cut => stopped(run, len, End::Cut(run.at)),
+    }
+}
+
+// A number on standard output, with the words before it.
+pub fn say(words: &[u8], n: usize) {
+    io::write_all(1, words);
+    io::print_decimal(1, n as u64);
+}
+
+// The end of a line of counts: all agreed, or where the run stopped. `which` says what a record is.
+pub fn say_end(end: End, which: &[u8]) {
+    match end {
+        End::All => {
+            io::write_all(1, b", all as recorded\n");
+        }
+        End::Differs(at) => {
+            io::write_all(1, b" as recorded, and ");
+            io::write_all(1, which);
+            say(b" that is not at byte ", at);
+            io::write_all(1, b"\n");
+        }
+        End::Cut(at) => {
+            say(b" as recorded, and no whole record at byte ", at);
+            io::write_all(1, b"\n");
+        }
+    }
+}
+
+// Room for the records. The contract gives the length, which lending the array as a slice needs.
+pub fn room() -> [u8; 262144]
+    ensures { λ r. ⌜ 262144 ≡ length r ⌝ }
+{
+    [0; 262144]
+}
+
+// Whether standard input goes on behind what was read, which is then said.
+pub fn too_long() -> bool {
+    let mut one = [0u8; 1];
+    if io::read_full(0, &mut one) > 0 {
+        io::write_all(1, b"too long\n");
+        return true;
+    }
+    false
+}
