@@ -1,6 +1,0 @@
-pub mod Bound
-pub mod Table
-pub mod Tag
-pub mod Chain
-pub mod Plain
-pub mod Examples

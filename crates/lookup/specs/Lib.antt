@@ -1,4 +1,0 @@
-pub mod Last
-pub mod Lookup
-pub mod Listing
-pub mod Many

@@ -1,4 +1,0 @@
-pub mod Ends
-pub mod Tags
-pub mod Scopes
-pub mod Exports
