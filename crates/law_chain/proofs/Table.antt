@@ -20,7 +20,7 @@ use Rattle.scope_table.specs.declared.NamespaceResolver.{NamespaceResolver}
 use Rattle.scope_change.specs.Change.{boundOf}
 use Rattle.scope_declare.specs.Declare.{limitedOf}
 use Rattle.scope_push.specs.Push.{raisedOf}
-use Rattle.scope_lookup.specs.Last.{lastBelow}
+use Rattle.scope_table.specs.Lists.{lastBelow}
 use Rattle.scope_lookup.specs.Lookup.{hasPrefix, isDefault, valueOr, uriPart}
 use Rattle.scope_lookup.specs.declared.Resolved.{Resolved}
 use Rattle.scope_lookup.specs.declared.Resolved.the-variants.{Bound}

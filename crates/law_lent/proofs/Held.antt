@@ -18,6 +18,7 @@ use Rattle.scope_table.specs.declared.NamespaceResult.{NamespaceResult}
 use Rattle.scope_table.specs.declared.NamespaceResult.the-variants.{LendMore}
 use Rattle.scope_table.specs.declared.Form.the-variants as Is
 use Rattle.scope_table.proofs.Lists.{and-left, and-right, zeros-later, cut-zeros}
+use Rattle.scope_table.proofs.Rows.{rows-within}
 use Rattle.scope_table.proofs.Pad.{pad-length, holds-within}
 use Rattle.scope_table.proofs.Good.{formed-valid, valid-lent, form-good, ready}
 use Rattle.scope_table.proofs.Calls.{changes, lends-more}
@@ -45,7 +46,7 @@ module _ (bytes numbers : ℕ) (y : NamespaceResolver) (p : Proper y) where
   held-kept text records a t r e =
       let f = formed-valid y (p .valid) in
       let b = holds-within TEXT bytes (y .head .used) (f .bounds .few-bytes) (and-left (holdsOf TEXT bytes (y .head .used)) _ e) in
-      let n = holds-within NUMBERS numbers (rowAt (y .head .count)) (omega (arith, f .bounds .few-records)) (and-right (holdsOf TEXT bytes (y .head .used)) _ e) in
+      let n = holds-within NUMBERS numbers (rowAt (y .head .count)) (rows-within (y .head .count) (f .bounds .few-records)) (and-right (holdsOf TEXT bytes (y .head .used)) _ e) in
       let lt = length-take-le bytes (y .text) (omega (arith, b .0, p .sized .text)) in
       let lr = length-take-le numbers (y .records) (omega (arith, n .0, p .sized .records)) in
       let et = pad-of-take TEXT bytes (y .text) (p .sized .text) (b .0) (zeros-later (y .text) (y .head .used) bytes (b .1) (f .rest-text)) in

@@ -19,16 +19,18 @@ use Rattle.law_one_answer.proofs.Ends.{follows, together, alone, read-o
 use Rattle.scope_table.proofs.NamespaceResolver.fresh as scope-table·NamespaceResolver·fresh
 use Rattle.scope_table.proofs.NamespaceResolver.valid as scope-table·NamespaceResolver·valid
 use Rattle.scope_table.proofs.NamespaceBinding.prefix as scope-table·NamespaceBinding·prefix
-use Rattle.scope_table.proofs.NamespaceBinding.namespace as scope-table·NamespaceBinding·namespace
 use Rattle.scope_table.proofs.record_at as scope-table·record-at
 use Rattle.scope_table.proofs.write_record as scope-table·write-record
 use Rattle.scope_table.proofs.put as scope-table·put
 use Rattle.scope_table.proofs.clear_bytes as scope-table·clear-bytes
-use Rattle.scope_table.proofs.clear_numbers as scope-table·clear-numbers
+use Rattle.scope_table.proofs.clear_rows as scope-table·clear-rows
+use Rattle.scope_table.proofs.clear_rows_from as scope-table·clear-rows-from
+use Rattle.scope_table.proofs.saturating_sub as scope-table·saturating-sub
 use Rattle.scope_table.proofs.fits as scope-table·fits
 use Rattle.scope_table.proofs.form_in as scope-table·form-in
 use Rattle.scope_table.proofs.fresh_in as scope-table·fresh-in
 use Rattle.scope_table.proofs.change_numbers as scope-table·change-numbers
+use Rattle.scope_table.proofs.told_of as scope-table·told-of
 use Rattle.scope_change.proofs.append_in as scope-change·append-in
 use Rattle.scope_change.proofs.clear_above_in as scope-change·clear-above-in
 use Rattle.scope_change.proofs.set_level_in as scope-change·set-level-in
@@ -45,7 +47,6 @@ use Rattle.scope_declare.proofs.max_namespace_bindings as scope-declare·max-na
 use Rattle.scope_declare.proofs.set_max_namespace_bindings as scope-declare·set-max-namespace-bindings
 use Rattle.scope_push.proofs.push_in as scope-push·push-in
 use Rattle.scope_push.proofs.push as scope-push·push
-use Rattle.scope_lookup.proofs.among as scope-lookup·among
 use Rattle.scope_lookup.proofs.name_among as scope-lookup·name-among
 use Rattle.scope_lookup.proofs.resolve_prefix_in as scope-lookup·resolve-prefix-in
 use Rattle.scope_lookup.proofs.resolve_in as scope-lookup·resolve-in
@@ -89,9 +90,6 @@ module _ {M : Type 1} (𝓤 : URA M) (H : Heap 𝓤) (A : Atoms 𝓤) (mem : Mem
   pub scope-table-NamespaceBinding-prefix : SettledAs 𝓤 scope-table·NamespaceBinding·prefix.ended (List ℕ) (λ κs r. now r) (scope-table·NamespaceBinding·prefix.clauses 𝓤 H A mem run)
   scope-table-NamespaceBinding-prefix κs a g y z = read-off 𝓤 (λ (bytes : List ℕ). (bytes, y .1))
 
-  pub scope-table-NamespaceBinding-namespace : SettledAs 𝓤 scope-table·NamespaceBinding·namespace.ended (List ℕ) (λ κs r. now r) (scope-table·NamespaceBinding·namespace.clauses 𝓤 H A mem run)
-  scope-table-NamespaceBinding-namespace κs a g y z = read-off 𝓤 (λ (bytes : List ℕ). (bytes, y .1))
-
   pub scope-table-record-at : Settled 𝓤 scope-table·record-at.ended (scope-table·record-at.clauses 𝓤 H A mem run)
   scope-table-record-at κs a g y z = alone 𝓤 _ y z refl
 
@@ -104,8 +102,14 @@ module _ {M : Type 1} (𝓤 : URA M) (H : Heap 𝓤) (A : Atoms 𝓤) (mem : Mem
   pub scope-table-clear-bytes : Settled 𝓤 scope-table·clear-bytes.ended (scope-table·clear-bytes.clauses 𝓤 H A mem run)
   scope-table-clear-bytes κs a g y z = follows 𝓤 (λ p q. together y z refl (together (y .1) (z .1) (p ∙ sym q) refl))
 
-  pub scope-table-clear-numbers : Settled 𝓤 scope-table·clear-numbers.ended (scope-table·clear-numbers.clauses 𝓤 H A mem run)
-  scope-table-clear-numbers κs a g y z = follows 𝓤 (λ p q. together y z refl (together (y .1) (z .1) (p ∙ sym q) refl))
+  pub scope-table-clear-rows : Settled 𝓤 scope-table·clear-rows.ended (scope-table·clear-rows.clauses 𝓤 H A mem run)
+  scope-table-clear-rows κs a g y z = follows 𝓤 (λ p q. together y z refl (together (y .1) (z .1) (p ∙ sym q) refl))
+
+  pub scope-table-clear-rows-from : Settled 𝓤 scope-table·clear-rows-from.ended (scope-table·clear-rows-from.clauses 𝓤 H A mem run)
+  scope-table-clear-rows-from κs a g y z = follows 𝓤 (λ p q. together y z refl (together (y .1) (z .1) (p ∙ sym q) refl))
+
+  pub scope-table-saturating-sub : Settled 𝓤 scope-table·saturating-sub.ended (scope-table·saturating-sub.clauses 𝓤 H A mem run)
+  scope-table-saturating-sub κs a g y z = alone 𝓤 _ y z refl
 
   pub scope-table-fits : Settled 𝓤 scope-table·fits.ended (scope-table·fits.clauses 𝓤 H A mem run)
   scope-table-fits κs a g y z = alone 𝓤 _ y z refl
@@ -118,6 +122,9 @@ module _ {M : Type 1} (𝓤 : URA M) (H : Heap 𝓤) (A : Atoms 𝓤) (mem : Mem
 
   pub scope-table-change-numbers : Settled 𝓤 scope-table·change-numbers.ended (scope-table·change-numbers.clauses 𝓤 H A mem run)
   scope-table-change-numbers κs a g y z = alone 𝓤 _ y z refl
+
+  pub scope-table-told-of : Settled 𝓤 scope-table·told-of.ended (scope-table·told-of.clauses 𝓤 H A mem run)
+  scope-table-told-of κs a g y z = alone 𝓤 _ y z refl
 
   pub scope-change-append-in : Settled 𝓤 scope-change·append-in.ended (scope-change·append-in.clauses 𝓤 H A mem run)
   scope-change-append-in κs a g y z = read-off 𝓤 (λ (x : Given). (outcomeOf x, (x .text, (x .records, (tt, (tt, (tt, (tt, tt))))))))
@@ -166,9 +173,6 @@ module _ {M : Type 1} (𝓤 : URA M) (H : Heap 𝓤) (A : Atoms 𝓤) (mem : Mem
 
   pub scope-push-push : Settled 𝓤 scope-push·push.ended (scope-push·push.clauses 𝓤 H A mem run)
   scope-push-push κs a g y z = alone 𝓤 _ y z refl
-
-  pub scope-lookup-among : Settled 𝓤 scope-lookup·among.ended (scope-lookup·among.clauses 𝓤 H A mem run)
-  scope-lookup-among κs a g y z = alone 𝓤 _ y z refl
 
   pub scope-lookup-name-among : Settled 𝓤 scope-lookup·name-among.ended (scope-lookup·name-among.clauses 𝓤 H A mem run)
   scope-lookup-name-among κs a g y z = alone 𝓤 _ y z refl

@@ -13,14 +13,13 @@ use Rattle.name.specs.Reserved.{xmlPrefix, xmlnsPrefix, xmlUri, xmlnsUri, isXml
 use Rattle.name.specs.Bind.{reservedBind}
 use Rattle.name.specs.Declares.{opening, isNamed, declaresOf, declaredPrefix}
 use Rattle.name.specs.Split.{colonAt, hasColon, prefixOf}
-use Rattle.scope_table.specs.Lists.{allBelow, allZero, cut}
+use Rattle.scope_table.specs.Lists.{lastBelow, allBelow, allZero, cut}
 use Rattle.scope_table.specs.Records.{prefixIn}
 use Rattle.scope_table.specs.Table.{builtIn, textOf, levelBefore, isRecord, opensBuiltIn, isChain, isRising, isWithin, isClear, isTable, validOf, freshOf}
 use Rattle.scope_table.specs.Answer.{changeNumbers}
 use Rattle.scope_change.specs.Change.{boundOf, refusalOf, appendOf, keptAt, keptOf, droppedOf, levelOf}
 use Rattle.scope_declare.specs.Declare.{namedOf, judgeOf, settleOf, declareOf, popOf}
 use Rattle.scope_push.specs.Push.{declarationOf, declarationThen, declarationsOf, tagAnswers, thenOf, declareAll, raisedOf, pushOf}
-use Rattle.scope_lookup.specs.Last.{lastBelow}
 use Rattle.scope_lookup.specs.Lookup.{hasPrefix, isDefault, valueOr, explicitOf, defaultOf, amongOf, resolvePrefixOf, resolveOf, uriPart, prefixPart}
 use Rattle.law_scopes.specs.Calls.{callOf}
 use Rattle.law_rows.specs.Seen.{handedBack}

@@ -9,13 +9,13 @@ use native.Mathlib.Omega.{arith}
 use lib.ListN.{length, length-append}
 use Rattle.scan.specs.Lists.{over}
 use Rattle.scan.proofs.Lists.{drop-over, length-over, take-of-over}
-use Rattle.scope_table.specs.Records.{ROW, rowAt, recordAt, bindingOf, rowOf}
+use Rattle.scope_table.specs.Records.{rowAt, recordAt, bindingOf, rowOf}
 use Rattle.scope_table.specs.Table.{TEXT, RECORDS, textOf, isRecord}
 use Rattle.scope_table.specs.declared.NamespaceBinding.{NamespaceBinding}
 use Rattle.scope_table.specs.declared.NamespaceResolver.{NamespaceResolver}
 use Rattle.scope_table.proofs.Lists.{zeros-later}
 use Rattle.scope_table.proofs.Turns.{text-next}
-use Rattle.scope_table.proofs.Rows.{Same, record-new, record-old, text-same, before-same}
+use Rattle.scope_table.proofs.Rows.{Same, rows-full, rows-before, row-fits, rest-after, record-new, record-old, text-same, before-same}
 use Rattle.scope_change.specs.Change.{boundOf}
 use Rattle.law_scopes.specs.Sized.{Sized}
 use Rattle.law_scopes.proofs.Form.{Shaped}
@@ -30,12 +30,18 @@ module _ (x : NamespaceResolver) (s : Sized x) (p v : List ℕ) (r : Takes x p v
   abbrev new : NamespaceBinding
   new = bindingOf (x .head .used) (length p) (length v) (x .head .level)
 
+  next-lent : rowAt (x .head .count + 1) ≤ length (x .records)
+  next-lent = rows-full (x .records) (x .head .count + 1) (s .records) (omega (arith, r .records))
+
+  row-lent : rowAt (x .head .count) ≤ length (x .records)
+  row-lent = rows-before (x .head .count) (x .head .count + 1) (length (x .records)) (omega arith) next-lent
+
   pub bound-sized : Sized (boundOf p v x)
   unfolding boundOf
   bound-sized =
       record {
         text = length-over (x .text) (x .head .used) (p ++ v) (omega (arith, length-append p v, s .text, r .bytes)) ∙ s .text;
-        records = length-over (x .records) (rowAt (x .head .count)) (rowOf new) (omega (arith, s .records, r .records)) ∙ s .records;
+        records = length-over (x .records) (rowAt (x .head .count)) (rowOf new) (omega (arith, row-fits (x .head .count) (length (x .records)) new next-lent)) ∙ s .records;
       }
 
   -- the table with the new record in it
@@ -44,10 +50,10 @@ module _ (x : NamespaceResolver) (s : Sized x) (p v : List ℕ) (r : Takes x p v
 
   -- the records that were there, and the new one
   pub old-stay : Same (x .head .count) (recordAt written) (recordAt (x .records))
-  old-stay = record-old (x .records) (x .head .count) new (omega (arith, s .records, r .records))
+  old-stay = record-old (x .records) (x .head .count) new row-lent
 
   pub new-stands : recordAt written (x .head .count) ≡ new
-  new-stands = record-new (x .records) (x .head .count) new (omega (arith, s .records, r .records))
+  new-stands = record-new (x .records) (x .head .count) new row-lent
 
   module _ (f : Shaped x) where
     -- the last record, or one before it
@@ -87,6 +93,5 @@ module _ (x : NamespaceResolver) (s : Sized x) (p v : List ℕ) (r : Takes x p v
               let e : used + (length p + length v) ≡ used + length (p ++ v) = omega (arith, length-append p v) in
               rw (e, drop-over (x .text) used (p ++ v) fits) (zeros-later (x .text) used (used + length (p ++ v)) (omega arith) (f .rest-text));
           rest-records =
-              let e : rowAt (n + 1) ≡ rowAt n + ROW = omega arith in
-              rw (e, drop-over (x .records) (rowAt n) (rowOf new) (omega (arith, s .records, r .records))) (zeros-later (x .records) (rowAt n) (rowAt n + ROW) (omega arith) (f .rest-records));
+              rest-after (x .records) n new next-lent (f .rest-records);
         }

@@ -15,13 +15,13 @@ use Rattle.scope_table.specs.Table.{builtIn, headOf, resolverOf, textOf}
 use Rattle.scope_table.specs.declared.NamespaceBinding.{NamespaceBinding}
 use Rattle.scope_table.specs.declared.NamespaceResolver.{NamespaceResolver}
 use Rattle.scope_table.proofs.Turns.{text-next}
-use Rattle.scope_table.proofs.Rows.{Same}
+use Rattle.scope_table.proofs.Rows.{rows-full, Same, take-same}
 use Rattle.law_scopes.specs.Scopes.{Made, Scopes}
 use Rattle.law_scopes.specs.Made.{listTo, madeOf, madeAt, madeIn, scopesOf}
 use Rattle.law_scopes.specs.Promises.{Proper, ScopesDetermine}
 use Rattle.law_scopes.proofs.Lists.{all-same}
 use Rattle.law_scopes.proofs.Form.{Shaped, form-of}
-use Rattle.law_scopes.proofs.Records.{text-two, take-same}
+use Rattle.law_scopes.proofs.Records.{text-two}
 use Rattle.law_scopes.proofs.BuiltIn.{first-record, second-record}
 use Rattle.law_scopes.proofs.Listed.{list-back}
 use Rattle.law_scopes.proofs.Made.{prefix-length, value-length, count-sum}
@@ -161,7 +161,7 @@ module _ (x y : NamespaceResolver) (g : Proper x) (h : Proper y) (e : scopesOf x
       let n = x .head .count in
       let T = all-same (x .head .used) (x .text) (y .text) same-text (s .text ∙ sym (r .text)) (fx .rest-text) (subst (λ (n : ℕ). Clear n (y .text)) (sym same-used) (fy .rest-text)) in
       let R = all-same (rowAt n) (x .records) (y .records)
-      (take-same n (x .records) (y .records) (omega (arith, fx .few, s .records)) (omega (arith, fx .few, r .records)) same-records)
+      (take-same n (x .records) (y .records) (rows-full (x .records) n (s .records) (fx .few)) (rows-full (y .records) n (r .records) (fx .few)) same-records)
       (s .records ∙ sym (r .records)) (fx .rest-records) (subst (λ (n : ℕ). Clear (rowAt n) (y .records)) (sym same-count) (fy .rest-records)) in
       let u = same-used in
       let c = same-count in

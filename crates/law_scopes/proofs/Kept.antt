@@ -10,7 +10,7 @@ use Rattle.scope_table.specs.declared.NamespaceBinding.{NamespaceBinding}
 use Rattle.scope_table.specs.declared.NamespaceResolver.{NamespaceResolver}
 use Rattle.scope_table.proofs.Lists.{cut-length}
 use Rattle.scope_table.proofs.Turns.{text-grows}
-use Rattle.scope_table.proofs.Rows.{Same, same-take, text-same, before-same}
+use Rattle.scope_table.proofs.Rows.{rows-full, Same, same-take, text-same, before-same}
 use Rattle.scope_change.specs.Change.{keptAt, keptOf, droppedOf}
 use Rattle.scope_change.proofs.Change.{keep-within}
 use Rattle.law_scopes.specs.Sized.{Sized}
@@ -21,7 +21,7 @@ use Rattle.law_scopes.proofs.Records.{says, opening-within, kept-least,
 module _ (x : NamespaceResolver) (s : Sized x) (f : Shaped x) where
   module _ (k to : ℕ) (within : k ≤ x .head .count) where
     rows-fit : rowAt k ≤ length (x .records)
-    rows-fit = omega (arith, s .records, f .few)
+    rows-fit = rows-full (x .records) k (s .records) (omega (arith, f .few))
 
     pub text-fits : textOf (recordAt (x .records)) k ≤ length (x .text)
     text-fits = omega (arith, s .text, f .small, f .ends, text-grows (recordAt (x .records)) k (x .head .count) within)

@@ -1,5 +1,5 @@
 -- What a cut leaves: the part before it stays. Lists that have the same up to a place, and zeros after it, are the same.
-use Prim.Native.Nat.{ℕ, zero, suc, _-_, _≤_}
+use Prim.Native.Nat.{ℕ, _-_, _≤_}
 use mathlib.Core.Path.{_≡_, refl, sym, _∙_}
 use mathlib.Core.Bool.{true}
 use mathlib.Core.List.{List}
@@ -8,11 +8,7 @@ use lib.ListN.{length, take, drop, replicate}
 use lib.Seq.{length-take-le, take-append-le, take-take, drop-at}
 use Rattle.scope_table.specs.Lists.{allZero, cut}
 use Rattle.scope_table.proofs.Lists.{cut-zeros}
-
-pub zeros : (n : ℕ) → allZero (replicate n 0) ≡ true
-unfolding allZero
-zeros zero = refl
-zeros (suc n) = zeros n
+use Rattle.scope_table.proofs.Pad.{zeros-all}
 
 module _ (t : List ℕ) (n : ℕ) (h : n ≤ length t) where
   pub take-of-cut : (j : ℕ) → j ≤ n → take j (cut t n) ≡ take j t
@@ -23,7 +19,7 @@ module _ (t : List ℕ) (n : ℕ) (h : n ≤ length t) where
 
   pub cut-rest : allZero (drop n (cut t n)) ≡ true
   unfolding cut
-  cut-rest = rw (drop-at (take n t) (replicate (length t - n) 0) n (length-take-le n t h)) (zeros (length t - n))
+  cut-rest = rw (drop-at (take n t) (replicate (length t - n) 0) n (length-take-le n t h)) (zeros-all (length t - n))
 
 cut-same : (n : ℕ) (l m : List ℕ) → take n l ≡ take n m → length l ≡ length m → cut l n ≡ cut m n
 unfolding cut

@@ -1,24 +1,20 @@
--- What the built-in records say, how many of the records a level keeps, and tables that have the same records.
-use Prim.Native.Nat.{ℕ, zero, suc, _+_, _≤_, _<_}
-use mathlib.Core.Path.{_≡_, refl, ap}
+-- What the built-in records say, and how many of the records a level keeps.
+use Prim.Native.Nat.{ℕ, zero, suc, _≤_, _<_}
+use mathlib.Core.Path.{_≡_, ap}
 use mathlib.Core.Bool.{true}
-use mathlib.Core.List.{List, _++_}
 use mathlib.Core.Logic.{⊎-elim}
 use native.Mathlib.Nat.{not-suc-le-zero, eq-or-lt-of-le}
-use native.Mathlib.Numerals.{add-one}
 use native.Mathlib.Omega.{arith}
 use lib.Dec.{eqb, leb}
-use lib.ListN.{length, take, drop}
-use lib.Seq.{take-add, drop-cons}
 use borrow.Author.Tests.{eqb-true, leb-true, leb-false}
 use Rattle.scan.proofs.Laws.{picks}
-use Rattle.scope_table.specs.Records.{ROW, rowAt, recordAt, rowOf}
+use Rattle.scope_table.specs.Lists.{lastBelow}
+use Rattle.scope_table.specs.Records.{recordAt}
 use Rattle.scope_table.specs.Table.{textOf, levelBefore, isRecord}
 use Rattle.scope_table.specs.declared.NamespaceBinding.{NamespaceBinding}
 use Rattle.scope_table.specs.declared.NamespaceResolver.{NamespaceResolver}
 use Rattle.scope_table.proofs.Lists.{and-left, and-right}
 use Rattle.scope_table.proofs.Turns.{text-grows}
-use Rattle.scope_table.proofs.Rows.{Same}
 use Rattle.scope_change.specs.Change.{keptAt}
 use Rattle.law_scopes.proofs.Form.{Shaped}
 
@@ -62,7 +58,7 @@ opening-within x f n h =
 module _ (rows : ℕ → NamespaceBinding) (v : ℕ) where
   -- they go up to any record that is not above it
   pub kept-least : (n m : ℕ) → suc m ≤ n → rows m .level ≤ v → suc m ≤ keptAt rows v n
-  unfolding keptAt
+  unfolding keptAt lastBelow
   kept-least zero m h l = h
   kept-least (suc n) m h l =
       picks (λ (k : ℕ). suc m ≤ k) (leb (rows n .level) v) (λ e. h)
@@ -85,7 +81,7 @@ module _ (rows : ℕ → NamespaceBinding) (v : ℕ) where
 
   -- where levels do not fall, none of them is above it
   pub kept-below : (n : ℕ) → Rising n → (j : ℕ) → j < keptAt rows v n → rows j .level ≤ v
-  unfolding keptAt
+  unfolding keptAt lastBelow
   kept-below zero r j = λ h. absurd (not-suc-le-zero h)
   kept-below (suc n) r j =
       picks (λ (m : ℕ). j < m → rows j .level ≤ v) (leb (rows n .level) v)
@@ -97,27 +93,9 @@ module _ (rows : ℕ → NamespaceBinding) (v : ℕ) where
 
   -- and what it drops is above it
   pub kept-above : (n j : ℕ) → keptAt rows v n ≤ j → j < n → v < rows j .level
-  unfolding keptAt
+  unfolding keptAt lastBelow
   kept-above zero j = λ lo hi. absurd (not-suc-le-zero hi)
   kept-above (suc n) j =
       picks (λ (m : ℕ). m ≤ j → j < suc n → v < rows j .level) (leb (rows n .level) v) (λ e lo hi. absurd (omega arith))
       (λ e lo hi.
       ⊎-elim (λ (q : j ≡ n). rw q (leb-false (rows n .level) v e)) (λ (i : j < n). kept-above n j lo i) (eq-or-lt-of-le (omega arith)))
-
--- The numbers of a record are what stands in its row; so tables with the same records are the same there.
-
-row-stands : (t : List ℕ) (n : ℕ) → rowAt n + ROW ≤ length t → take ROW (drop (rowAt n) t) ≡ rowOf (recordAt t n)
-row-stands t n h =
-    let a = rowAt n in
-    let one : a + 1 ≡ suc a = add-one a in
-    let two : a + 2 ≡ suc (suc a) = omega arith in
-    let three : a + 3 ≡ suc (suc (suc a)) = omega arith in
-    rw (drop-cons t a 0 (omega arith), drop-cons t (suc a) 0 (omega arith), drop-cons t (suc (suc a)) 0 (omega arith), drop-cons t (suc (suc (suc a))) 0 (omega arith), one, two, three)
-
-pub take-same : (n : ℕ) (l m : List ℕ) → rowAt n ≤ length l → rowAt n ≤ length m → Same n (recordAt l) (recordAt m) → take (rowAt n) l ≡ take (rowAt n) m
-take-same zero l m h k s = refl
-take-same (suc n) l m h k s =
-    let e : rowAt (suc n) ≡ rowAt n + ROW = omega arith in
-    let i = take-same n l m (omega arith) (omega arith) (λ j b. s j (omega arith)) in
-    rw (e, take-add (rowAt n) ROW l, take-add (rowAt n) ROW m, row-stands l n (omega arith), row-stands m n (omega arith), i)
-    (ap (λ (b : NamespaceBinding). take (rowAt n) m ++ rowOf b) (s n (omega arith)))

@@ -1,26 +1,25 @@
 -- Every call leaves a resolver that 20 does not refuse, and the fresh one is such a resolver.
-use Prim.Native.Nat.{ℕ, zero, suc, _+_, _-_, _*_, _≤_, _<_}
-use mathlib.Core.Path.{_≡_, refl, ap, _∙_}
+use Prim.Native.Nat.{ℕ, zero, suc, _-_, _≤_, _<_}
+use mathlib.Core.Path.{_≡_, refl}
 use mathlib.Core.List.{List, [], _∷_}
 use native.Mathlib.Omega.{arith}
 use lib.Dec.{leb}
-use lib.ListN.{length, replicate, length-append, length-replicate}
-use lib.Seq.{take-at, drop-at}
+use lib.ListN.{replicate}
+use lib.Seq.{take-at}
 use borrow.Author.Tests.{leb-false}
-use Rattle.scan.specs.Bytes.{bytes, bytesFrom}
 use Rattle.scan.proofs.Bytes.{same-refl}
 use Rattle.scan.proofs.Laws.{picks}
-use Rattle.scope_table.specs.Records.{ROW, recordAt}
-use Rattle.scope_table.specs.Table.{NUMBERS, DEEPEST, builtIn, textOf, levelBefore, isRecord, freshOf}
+use Rattle.scope_table.specs.Records.{recordAt}
+use Rattle.scope_table.specs.Table.{DEEPEST, builtIn, textOf, levelBefore, isRecord, freshOf}
 use Rattle.scope_table.specs.declared.NamespaceResolver.{NamespaceResolver}
 use Rattle.scope_table.specs.declared.Changed.{Changed}
+use Rattle.scope_table.proofs.Fresh.{built-in-length, fresh-bytes, fresh-numbers, fresh-rest-text, fresh-rest-records}
 use Rattle.scope_change.specs.Change.{boundOf, levelOf, droppedOf}
 use Rattle.scope_declare.specs.Declare.{addOf, popOf, limitedOf}
 use Rattle.scope_push.specs.Push.{declarationsOf, tagAnswers, raisedOf, pushOf}
 use Rattle.law_scopes.specs.Sized.{Sized}
 use Rattle.law_scopes.specs.Calls.{Call, add, push, pop, setLevel, setLimit, callOf, leftBy}
 use Rattle.law_scopes.specs.Promises.{Proper, ValidStays, ReachedValid}
-use Rattle.law_scopes.proofs.Lists.{zeros}
 use Rattle.law_scopes.proofs.Form.{Shaped, form-of, valid-of}
 use Rattle.law_scopes.proofs.Bound.{Takes, bound-sized, bound-form}
 use Rattle.law_scopes.proofs.Kept.{dropped-sized, dropped-form}
@@ -109,10 +108,6 @@ valid-stays x g (setLimit limit) = limited-proper x limit g
 
 -- The fresh resolver.
 
-built-length : length builtIn ≡ 73
-unfolding builtIn bytes bytesFrom
-built-length = refl
-
 fresh-two : (P : ℕ → Type 0) → P 0 → P 1 → (k : ℕ) → k < 2 → P k
 fresh-two P a b zero h = a
 fresh-two P a b (suc zero) h = b
@@ -126,24 +121,23 @@ fresh-form =
       few = omega arith;
       deep = omega arith;
       two = omega arith;
-      opening = rw (take-at builtIn (replicate 65463 0) 73 built-length) (same-refl builtIn);
+      opening = rw (take-at builtIn (replicate 65463 0) 73 built-in-length) (same-refl builtIn);
       xml = refl;
       xmlns = refl;
       links = fresh-two (λ k. recordAt (freshOf .records) k .start ≡ textOf (recordAt (freshOf .records)) k) refl refl;
       ends = refl;
       rises = fresh-two (λ k. levelBefore (recordAt (freshOf .records)) k ≤ recordAt (freshOf .records) k .level) (omega arith) (omega arith);
       top = fresh-two (λ k. recordAt (freshOf .records) k .level ≤ 0) (omega arith) (omega arith);
-      rest-text = rw (drop-at builtIn (replicate 65463 0) 73 built-length) (zeros 65463);
-      rest-records = zeros (NUMBERS - 2 * ROW);
+      rest-text = fresh-rest-text;
+      rest-records = fresh-rest-records;
     }
 
 pub fresh-proper : Proper freshOf
-unfolding freshOf
 fresh-proper =
     record {
       sized = record {
-        text = length-append builtIn (replicate 65463 0) ∙ omega (arith, built-length, length-replicate {A = ℕ} 65463 0);
-        records = ap (λ (n : ℕ). 8 + n) (length-replicate {A = ℕ} 4096 0);
+        text = fresh-bytes;
+        records = fresh-numbers;
       };
       valid = valid-of freshOf fresh-form;
     }

@@ -5,8 +5,7 @@ use mathlib.Core.Path.{_≡_, refl, sym, ap, _∙_}
 use mathlib.Core.Bool.{Bool, true, false, _&&_, false≢true}
 use mathlib.Core.List.{List, [], _∷_, _++_}
 use mathlib.Core.Logic.{⊎-elim}
-use native.Mathlib.Nat.{not-suc-le-zero, eq-or-lt-of-le}
-use native.Mathlib.Numerals.{sub-one}
+use native.Mathlib.Nat.{eq-or-lt-of-le}
 use native.Mathlib.Omega.{arith}
 use lib.Dec.{eqb, leb, ltb}
 use lib.ListN.{length, take, drop, length-append}
@@ -24,6 +23,8 @@ use Rattle.scope_table.specs.declared.NamespaceResolver.{NamespaceResolver}
 use Rattle.scope_table.specs.declared.NamespaceResult.{NamespaceResult}
 use Rattle.scope_table.specs.declared.NamespaceResult.the-variants.{Done, TooManyBindings, BindingTableFull, TextFull, BadResolver, LendMore}
 use Rattle.scope_table.proofs.Lists.{and-left, and-right, and-take}
+use Rattle.scope_table.proofs.Last.{last-hit, last-miss, last-none, last-within}
+use Rattle.scope_table.proofs.Rows.{rows-before, rows-within, row-fits}
 use Rattle.scope_table.proofs.Turns.{text-grows}
 use Rattle.scope_table.proofs.Pad.{pad-records, pad-over, pad-cut, holds-within, holds-is}
 use Rattle.scope_table.proofs.Good.{Ready}
@@ -63,7 +64,7 @@ module _ (bytes numbers : ℕ) (room : Room) (head : Head) (size : ℕ) where
       let h = lent-has e in
       let r = room-has room head size (h .0) in
       let b = holds-within TEXT bytes (head .used + size) (omega (arith, w .few-bytes, r .1)) (and-left (holdsOf TEXT bytes (head .used + size)) _ (h .1)) in
-      let m : rowAt (head .count + 1) ≤ NUMBERS = omega (arith, w .few-records, r .0) in
+      let m : rowAt (head .count + 1) ≤ NUMBERS = rows-within (head .count + 1) (omega (arith, w .few-records, r .0)) in
       let n = holds-within NUMBERS numbers (rowAt (head .count + 1)) m (and-right (holdsOf TEXT bytes (head .used + size)) _ (h .1)) in
       record { text = b .1; row = n .1 }
 
@@ -115,39 +116,35 @@ module _ (text records : List ℕ) (head : Head) (room : Room) (w : CanAppend (l
       let d = lent-has (length text) (length records) room head size (ap isDone (sym e)) in
       let l = lent-holds (length text) (length records) room head size w (ap isDone (sym e)) in
       let n : head .used + length (p ++ v) ≤ length text = omega (arith, length-append p v, l .text) in
+      let new = bindingOf (head .used) (length p) (length v) (head .level) in
       ap (λ (x : NamespaceResolver). given Done (x .text) (x .records) (x .head)) b
       ∙ changes text records head (w .fit) (appendOf room p v) Done (boundOf p v (standsFor text records head)) _ _ (rw (d .0)) (d .1)
       (pad-over TEXT text (head .used) (p ++ v) n)
-      (pad-over NUMBERS records (rowAt (head .count)) (rowOf (bindingOf (head .used) (length p) (length v) (head .level))) (omega (arith, l .row)))
+      (pad-over NUMBERS records (rowAt (head .count)) (rowOf new) (row-fits (head .count) (length records) new (l .row)))
 
 -- The records that are kept: one turn.
 module _ (rows : ℕ → NamespaceBinding) (v : ℕ) where
+  stays : ℕ → Bool
+  stays i = leb (rows i .level) v
+
   level-is : (i : ℕ) (b : NamespaceBinding) → b ≡ rows i → rows i .level ≡ b .level
   level-is i b e = ap (λ (x : NamespaceBinding). x .level) (sym e)
 
   pub keep-hit : (i : ℕ) (b : NamespaceBinding) → 0 < i → b ≡ rows (i - 1) → b .level ≤ v → keptAt rows v i ≡ i
-  unfolding keptAt
-  keep-hit zero b p e h = absurd (not-suc-le-zero p)
-  keep-hit (suc j) b p e h =
-      let k : b ≡ rows j = rw (sub-one (suc j)) at e in
-      rw (le-leb (rows j .level) v (omega (arith, level-is j b k)))
+  unfolding keptAt stays
+  keep-hit i b p e h = last-hit stays i p (le-leb (rows (i - 1) .level) v (omega (arith, level-is (i - 1) b e)))
 
   pub keep-miss : (i : ℕ) (b : NamespaceBinding) → 0 < i → b ≡ rows (i - 1) → v < b .level → keptAt rows v i ≡ keptAt rows v (i - 1)
-  unfolding keptAt
-  keep-miss zero b p e h = absurd (not-suc-le-zero p)
-  keep-miss (suc j) b p e h =
-      let k : b ≡ rows j = rw (sub-one (suc j)) at e in
-      rw (lt-leb (rows j .level) v (omega (arith, level-is j b k)), sub-one (suc j))
+  unfolding keptAt stays
+  keep-miss i b p e h = last-miss stays i p (lt-leb (rows (i - 1) .level) v (omega (arith, level-is (i - 1) b e)))
 
-  keep-step : (n : ℕ) → keptAt rows v n ≤ n → (t : Bool) → leb (rows n .level) v ≡ t → keptAt rows v (suc n) ≤ suc n
-  unfolding keptAt
-  keep-step n h true e = rw e (omega arith)
-  keep-step n h false e = rw e (omega arith)
+  pub keep-none : (i : ℕ) → i ≤ 0 → keptAt rows v i ≡ 0
+  unfolding keptAt stays
+  keep-none i h = last-none stays i h
 
   pub keep-within : (n : ℕ) → keptAt rows v n ≤ n
-  unfolding keptAt
-  keep-within zero = omega arith
-  keep-within (suc n) = keep-step n (keep-within n) (leb (rows n .level) v) refl
+  unfolding keptAt stays
+  keep-within n = last-within stays n
 
 -- Where the text of the kept records ends, by what they say and by their lengths.
 pub end-is : (rows : ℕ → NamespaceBinding) (k n used : ℕ) → k ≤ n → ((j : ℕ) → j < n → rows j .start ≡ textOf rows j) → textOf rows n ≡ used → endOf rows k n used ≡ textOf rows k
@@ -173,7 +170,7 @@ module _ (text records : List ℕ) (head : Head) (ok : Ready text records head) 
   unfolding fitsOf
   still-fits =
       and-take (holds-is TEXT (length text) e (ok .bytes-most) (omega (arith, e-within, ok .bytes-lent)))
-      (holds-is NUMBERS (length records) (rowAt k) (ok .numbers-most) (omega (arith, k-within, ok .rows-lent)))
+      (holds-is NUMBERS (length records) (rowAt k) (ok .numbers-most) (rows-before k (head .count) (length records) k-within (ok .rows-lent)))
 
   drops : levelOf to (standsFor text records head) ≡ changed Done (resolverOf (cut (padTo TEXT text) e) (cut (padTo NUMBERS records) (rowAt k)) (headOf e k to (head .limit)))
   unfolding levelOf droppedOf keptOf
@@ -184,4 +181,4 @@ module _ (text records : List ℕ) (head : Head) (ok : Ready text records head) 
   level-done t r p q =
       changes text records head (ok .fit) (levelOf to) Done _ t r drops still-fits
       (pad-cut TEXT text e (ok .bytes-most) (omega (arith, e-within, ok .bytes-lent)) ∙ sym p)
-      (pad-cut NUMBERS records (rowAt k) (ok .numbers-most) (omega (arith, k-within, ok .rows-lent)) ∙ sym q)
+      (pad-cut NUMBERS records (rowAt k) (ok .numbers-most) (rows-before k (head .count) (length records) k-within (ok .rows-lent)) ∙ sym q)

@@ -1,12 +1,12 @@
 -- What a call that changes a resolver leaves: one binding more, and the records above a level dropped.
-use Prim.Native.Nat.{ℕ, zero, suc, _+_, _-_}
+use Prim.Native.Nat.{ℕ, _+_, _-_}
 use mathlib.Core.Bool.{Bool, _&&_}
 use mathlib.Core.List.{List, _++_}
 use lib.ListN.{length}
 use lib.Dec.{eqb, leb, ltb}
 use Rattle.scan.specs.First.{pick}
 use Rattle.scan.specs.Lists.{over}
-use Rattle.scope_table.specs.Lists.{cut}
+use Rattle.scope_table.specs.Lists.{lastBelow, cut}
 use Rattle.scope_table.specs.Records.{rowAt, recordAt, bindingOf, rowOf}
 use Rattle.scope_table.specs.Table.{TEXT, RECORDS, headOf, resolverOf, textOf, validOf}
 use Rattle.scope_table.specs.Answer.{isDone, changed}
@@ -60,8 +60,7 @@ lentRefusalOf bytes numbers room head size =
 
 -- How many of the first n records stay at a level: those up to the last one that is not above it.
 unfoldable pub keptAt : (rows : ℕ → NamespaceBinding) (level n : ℕ) → ℕ
-keptAt rows level zero = 0
-keptAt rows level (suc n) = pick (leb (rows n .level) level) (suc n) (keptAt rows level n)
+keptAt rows level n = lastBelow (λ i. leb (rows i .level) level) n
 
 -- Where the text of the first k of n records ends, as the records say it: where the next one starts, or at text used
 -- after the last. In a table of the right form this is `textOf` of k.

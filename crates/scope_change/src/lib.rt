@@ -3,7 +3,7 @@
 // Ports of `add` and `set_level` of `NamespaceResolver` what they do to the buffer and the bindings (src/name.rs). The
 // functions work on lent memory that may be shorter than the capacity (scope_table, specs/Lent).
 ghost use mathlib.Core.Path.{_≡_};
-ghost use Prim.Native.Nat.{_+_, _-_, _≤_};
+ghost use Prim.Native.Nat.{_+_, _≤_};
 ghost use lib.ListN.{length};
 ghost use Rattle.scope_table.specs.Lists.{cut};
 ghost use Rattle.scope_table.specs.Records.{rowAt, recordAt};
@@ -25,17 +25,8 @@ pub struct Room {
     pub bytes: usize,
 }
 
-// What is left of `all` when `some` are taken: `saturating_sub` of the standard library.
-fn left(all: usize, some: usize) -> usize
-    ensures { λ r. ⌜ r ≡ all - some ⌝ }
-{
-    if some < all {
-        return all - some;
-    }
-    0
-}
-
-// Refusals 16, 18, 19 for a binding of these lengths, each at its turn. No sum is made of lengths that are not there.
+// Refusals 16, 18, 19 for a binding of these lengths, each at its turn. The lengths are compared with
+// what is free, one after the other, and never added: their sum might not be a number of 64 bits.
 fn refusal(room: Room, head: Head, prefix_len: usize, value_len: usize) -> NamespaceResult
     ensures { λ r. ⌜ r ≡ refusalOf room head («prefix_len» + «value_len») ⌝ }
 {
@@ -44,7 +35,7 @@ fn refusal(room: Room, head: Head, prefix_len: usize, value_len: usize) -> Names
     let used = head.used;
     let records = room.records;
     let bytes = room.bytes;
-    if limit <= left(count, NamespaceResolver::BUILT_INS) {
+    if limit <= scope_table::saturating_sub(count, NamespaceResolver::BUILT_INS) {
         return NamespaceResult::TooManyBindings(limit);
     }
     if records <= count {
@@ -208,9 +199,7 @@ pub fn clear_above_in(text: &mut [u8], records: &mut [usize], head: Head, to: us
     let k = kept(records, count, to);
     let end = text_end(records, k, count, used);
     scope_table::clear_bytes(text, end, used);
-    let row = NamespaceResolver::ROW * k;
-    let rows = NamespaceResolver::ROW * count;
-    scope_table::clear_numbers(records, row, rows);
+    scope_table::clear_rows(records, k, count);
     Outcome {
         answer: NamespaceResult::Done,
         head: Head {
@@ -248,7 +237,5 @@ pub fn take_back(text: &mut [u8], records: &mut [usize], used: usize, count: usi
 {
     let bytes = text.len();
     scope_table::clear_bytes(text, used, bytes);
-    let numbers = records.len();
-    let row = NamespaceResolver::ROW * count;
-    scope_table::clear_numbers(records, row, numbers);
+    scope_table::clear_rows_from(records, count);
 }

@@ -21,10 +21,12 @@ use Rattle.scope_table.specs.Table.{TEXT, RECORDS, NUMBERS, resolverOf, validOf
 use Rattle.scope_table.specs.Answer.{isDone, changed}
 use Rattle.scope_table.specs.Lent.{fitsOf, Given, given, lentOf}
 use Rattle.scope_table.specs.declared.Head.{Head}
+use Rattle.scope_table.specs.declared.NamespaceBinding.{NamespaceBinding}
 use Rattle.scope_table.specs.declared.NamespaceResolver.{NamespaceResolver}
 use Rattle.scope_table.specs.declared.Changed.{Changed}
 use Rattle.scope_table.specs.declared.NamespaceResult.{NamespaceResult}
 use Rattle.scope_table.specs.declared.NamespaceResult.the-variants.{Done, InvalidXmlPrefixBind, InvalidXmlnsPrefixBind, InvalidPrefixForXml, InvalidPrefixForXmlns, TooManyBindings, TooDeeplyNested, BindingTableFull, TextFull, BadResolver, LendMore, WrongLength}
+use Rattle.scope_table.proofs.Rows.{rows-full, row-fits}
 use Rattle.scope_table.proofs.Calls.{unchanged, same-call}
 use Rattle.scope_table.proofs.Full.{full-is}
 use Rattle.scope_change.specs.Change.{boundOf, refusalOf, appendOf, keptOf, droppedOf, levelOf, whole}
@@ -139,10 +141,11 @@ pub record FullSize (x : NamespaceResolver) : Type 0 where
 pub declare-sized : (room : Room) (d : Declares) (p v : List ℕ) (at : Places) (x : NamespaceResolver) → room .records ≤ RECORDS → room .bytes ≤ TEXT → FullSize x → FullSize (declareOf room d p v at x .resolver)
 unfolding boundOf
 declare-sized room d p v at x few small s =
+    let new : (p v : List ℕ) → NamespaceBinding = λ p v. bindingOf (x .head .used) (length p) (length v) (x .head .level) in
     declare-ways room x (λ c. FullSize (c .resolver)) (λ a e. s)
     (λ p v h k. record {
       text = over-length (x .text) (x .head .used) (p ++ v) (omega (arith, s .text, length-append p v)) ∙ s .text;
-      records = over-length (x .records) (rowAt (x .head .count)) (rowOf (bindingOf (x .head .used) (length p) (length v) (x .head .level))) (omega (arith, s .records)) ∙ s .records;
+      records = over-length (x .records) (rowAt (x .head .count)) (rowOf (new p v)) (row-fits (x .head .count) (length (x .records)) (new p v) (rows-full (x .records) (x .head .count + 1) (s .records) (omega arith))) ∙ s .records;
     })
     d p v at
 

@@ -133,16 +133,6 @@ pub fn add_in<'a>(
     declare_in(text, records, head, room, declares, prefix, value, at)
 }
 
-// One level lower, and 0 below 0: `saturating_sub(1)` of the standard library.
-fn below(level: usize) -> usize
-    ensures { λ r. ⌜ r ≡ level - 1 ⌝ }
-{
-    if level == 0 {
-        return 0;
-    }
-    level - 1
-}
-
 // `NamespaceResolver::pop`, src/name.rs, on lent memory.
 pub fn pop_in(text: &mut [u8], records: &mut [usize], head: Head) -> Outcome
     ensures { λ r. ⌜ given (r .answer) (now (text .exit)) (now (records .exit)) (r .head)
@@ -159,7 +149,10 @@ pub fn pop_in(text: &mut [u8], records: &mut [usize], head: Head) -> Outcome
             answer: NamespaceResult::BadResolver,
             head: head,
         },
-        Form::Good => scope_change::clear_above_in(text, records, head, below(level)),
+        Form::Good => {
+            let to = scope_table::saturating_sub(level, 1);
+            scope_change::clear_above_in(text, records, head, to)
+        }
     }
 }
 

@@ -12,6 +12,7 @@ use Rattle.scan.specs.First.{firstTo}
 use Rattle.scan.proofs.Laws.{to-skip, to-past}
 use Rattle.scope_table.specs.Records.{rowAt, recordAt}
 use Rattle.scope_table.specs.Table.{levelBefore}
+use Rattle.scope_table.proofs.Rows.{rows-before}
 use Rattle.scope_listing.specs.Listing.{Rising, atLevel}
 
 -- a test, and whether it fails
@@ -26,7 +27,7 @@ leb-not f n = by (ltb f n) refl where
 
 -- a record in use is lent
 pub rising-lent : (records : List ℕ) (count i : ℕ) → Rising records count → i < count → rowAt (i + 1) ≤ length records
-rising-lent records count i r h = omega (arith, r .rows)
+rising-lent records count i r h = rows-before (i + 1) count (length records) (omega arith) (r .rows)
 
 -- Along a table whose levels rise, the first level above the one that is asked for ends the search.
 module _ (records : List ℕ) (count asked : ℕ) (r : Rising records count) where

@@ -22,6 +22,7 @@ use Rattle.scope_table.specs.declared.NamespaceBinding.{NamespaceBinding}
 use Rattle.scope_table.specs.declared.NamespaceResolver.{NamespaceResolver}
 use Rattle.scope_table.specs.declared.Form.the-variants as Is
 use Rattle.scope_lookup.specs.Inside.{Inside}
+use Rattle.scope_lookup.specs.Lookup.{hasPrefix}
 use Rattle.scope_lookup.proofs.Padded.{pad-prefix, ready-inside}
 use Rattle.scope_listing.specs.Listing.{Rising, listing, isOverridden, inEffect, atLevel, listedAt, pastBuiltIn, bindingsOf, bindingsAtOf}
 use Rattle.scope_listing.specs.declared.Listed.the-variants.{BadResolver, WrongLength}
@@ -51,10 +52,10 @@ module _ (p q : ℕ → Bool) (i n : ℕ) (h : (k : ℕ) → k < n → p k ≡ q
 
 module _ (m : ℕ) (text : List ℕ) (rows : ℕ → NamespaceBinding) (count : ℕ) (h : (k : ℕ) → k < count → valueEnd (rows k) ≤ length text) where
   pad-overridden : (i : ℕ) → i < count → isOverridden (padTo m text) rows count i ≡ isOverridden text rows count i
-  unfolding isOverridden
+  unfolding isOverridden hasPrefix
   pad-overridden i l =
       ap (λ (f : ℕ). ltb f count)
-      (first-same (λ j. sameBytes (prefixIn (padTo m text) (rows j)) (prefixIn (padTo m text) (rows i))) (λ j. sameBytes (prefixIn text (rows j)) (prefixIn text (rows i))) (i + 1) count
+      (first-same (λ j. hasPrefix (padTo m text) (prefixIn (padTo m text) (rows i)) (rows j)) (λ j. hasPrefix text (prefixIn text (rows i)) (rows j)) (i + 1) count
       (λ k b. ap (λ (s : List ℕ). sameBytes s (prefixIn (padTo m text) (rows i))) (pad-prefix m text (rows k) (h k b)) ∙ ap (sameBytes (prefixIn text (rows k))) (pad-prefix m text (rows i) (h i l))))
 
   pub pad-in-effect : (from : ℕ) → firstTo (inEffect (padTo m text) rows count) from count ≡ firstTo (inEffect text rows count) from count

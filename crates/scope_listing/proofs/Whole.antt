@@ -21,7 +21,7 @@ use Rattle.scope_table.specs.Table.{validOf}
 use Rattle.scope_table.proofs.Good.{Formed, formed-valid, lies}
 use Rattle.scope_table.specs.declared.NamespaceBinding.{NamespaceBinding}
 use Rattle.scope_table.specs.declared.NamespaceResolver.{NamespaceResolver}
-use Rattle.scope_lookup.specs.Last.{lastBelow}
+use Rattle.scope_table.specs.Lists.{lastBelow}
 use Rattle.scope_lookup.specs.Lookup.{hasPrefix, isDefault, valueOr, explicitOf, defaultOf, amongOf, resolvePrefixOf}
 use Rattle.scope_lookup.specs.declared.Resolved.{Resolved}
 use Rattle.scope_lookup.specs.declared.Resolved.the-variants.{Bound, Unbound, Unknown}
@@ -150,7 +150,7 @@ module _ (x : NamespaceResolver) (v : validOf x ≡ true) (w : x .head .used ≤
   row = recordAt (x .records)
 
   like : ℕ → Bool
-  like j = sameBytes (prefixIn (x .text) (row j)) (prefixIn (x .text) (row i))
+  like j = hasPrefix (x .text) (prefixIn (x .text) (row i)) (row j)
 
   not-is : (t : Bool) → not t ≡ true → t ≡ false
   not-is true e = absurd (false≢true e)
@@ -168,7 +168,7 @@ module _ (x : NamespaceResolver) (v : validOf x ≡ true) (w : x .head .used ≤
       to-first like (i + 1) (x .head .count) (omega arith) .before k (omega arith) (omega arith)
 
   itself : like i ≡ true
-  unfolding like
+  unfolding like hasPrefix
   itself = same-refl (prefixIn (x .text) (row i))
 
   value-is : (other : Resolved) → valueOr row other (suc i) ≡ Bound (valueStart (row i)) (valueEnd (row i))
@@ -188,7 +188,7 @@ module _ (x : NamespaceResolver) (v : validOf x ≡ true) (w : x .head .used ≤
       n (omega (arith, part-length (x .text) (row i .start) (valueStart (row i)) (omega arith) (omega arith)))
 
   default-later : row i .«prefix_len» ≡ 0 → (k : ℕ) → i < k → k < x .head .count → isDefault (row k) ≡ false
-  unfolding isDefault like sameBytes
+  unfolding isDefault like hasPrefix sameBytes
   default-later e k lo hi =
       ne-eqb (row k .«prefix_len») 0
       (λ z. true≢false (sym (rw (none-prefix k z, none-prefix i e)) ∙ no-later k lo hi))

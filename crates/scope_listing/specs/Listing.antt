@@ -6,11 +6,11 @@ use mathlib.Core.List.{List, [], _∷_}
 use lib.Dec.{eqb, ltb}
 use lib.ListN.{getD, length}
 use Rattle.scan.specs.First.{pick, firstTo}
-use Rattle.scan.specs.Bytes.{sameBytes}
 use Rattle.scope_table.specs.Records.{rowAt, recordAt, valueStart, valueEnd, prefixIn}
 use Rattle.scope_table.specs.Table.{levelBefore, validOf}
 use Rattle.scope_table.specs.declared.NamespaceBinding.{NamespaceBinding}
 use Rattle.scope_table.specs.declared.NamespaceResolver.{NamespaceResolver}
+use Rattle.scope_lookup.specs.Lookup.{hasPrefix}
 use Rattle.scope_listing.specs.declared.Listed.{Listed}
 use Rattle.scope_listing.specs.declared.Listed.the-variants.{Binding, End, BadResolver, WrongLength}
 use Rattle.scope_listing.specs.declared.Listing.{Listing}
@@ -45,7 +45,7 @@ hasValue b = not (eqb (b .«value_len») 0)
 -- A record is overridden by any later one with the same prefix, also by one with an empty value.
 unfoldable pub isOverridden : (text : List ℕ) (rows : ℕ → NamespaceBinding) (count : ℕ) → ℕ → Bool
 isOverridden text rows count i =
-    ltb (firstTo (λ j. sameBytes (prefixIn text (rows j)) (prefixIn text (rows i))) (i + 1) count) count
+    ltb (firstTo (λ j. hasPrefix text (prefixIn text (rows i)) (rows j)) (i + 1) count) count
 
 -- `bindings` shows what is neither empty nor overridden.
 unfoldable pub inEffect : (text : List ℕ) (rows : ℕ → NamespaceBinding) (count : ℕ) → ℕ → Bool

@@ -1,8 +1,8 @@
 // Listing a resolver's bindings: `bindings` and `bindings_of` of `NamespaceResolver`, and one step of their iterators,
 // src/name.rs.
 //
-// A name that ends in `_in` takes lent memory, any other a resolver by value. Each of them tests the form of the resolver
-// first (refusal 20).
+// `bindings_in` and `bindings_of_in` take lent memory, `bindings` and `bindings_of` a resolver by value. These four test the
+// form of the resolver first (refusal 20); what they call asks for it, and what takes an answer has no resolver to test.
 
 use scope_table::Form;
 use scope_table::Head;
@@ -14,11 +14,11 @@ ghost use mathlib.Core.List.{[], _∷_};
 ghost use lib.ListN.{length};
 ghost use lib.Dec.{eqb};
 ghost use Rattle.scan.specs.First.{pick, firstTo};
-ghost use Rattle.scan.specs.Bytes.{sameBytes};
-ghost use Rattle.scope_table.specs.Records.{recordAt, prefixIn};
+ghost use Rattle.scope_table.specs.Records.{recordAt};
 ghost use Rattle.scope_table.specs.Table.{TEXT};
 ghost use Rattle.scope_table.specs.Lent.{lent};
 ghost use Rattle.scope_lookup.specs.Inside.{Inside};
+ghost use Rattle.scope_lookup.specs.Lookup.{hasPrefix};
 ghost use Rattle.scope_listing.specs.Listing.{Rising, listing, listedNumbers, linedUp, inEffect, atLevel, listedAt, pastBuiltIn, bindingsOf, bindingsAtOf};
 ghost use Rattle.scope_listing.specs.declared.Listed.the-variants.{WrongLength};
 
@@ -59,7 +59,7 @@ fn first_with<'t, 'n>(
     prefix: &'n [u8],
 ) -> usize
     requires { ⌜ Inside (now records) count (length (now text)) ⌝ }
-    ensures { λ r. ⌜ r ≡ firstTo (λ j. sameBytes (prefixIn (now (text .entry)) (recordAt (now (records .entry)) j)) (now (prefix .entry))) from count ⌝ }
+    ensures { λ r. ⌜ r ≡ firstTo (λ j. hasPrefix (now (text .entry)) (now (prefix .entry)) (recordAt (now (records .entry)) j)) from count ⌝ }
 {
     let mut i = from;
     while i < count {

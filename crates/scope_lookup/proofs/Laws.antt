@@ -22,7 +22,8 @@ use Rattle.name.specs.Split.{colonAt, hasColon, prefixOf}
 use Rattle.scope_table.specs.Records.{rowAt, recordAt, valueStart, valueEnd, prefixIn}
 use Rattle.scope_table.specs.Table.{TEXT}
 use Rattle.scope_table.specs.declared.NamespaceBinding.{NamespaceBinding}
-use Rattle.scope_lookup.specs.Last.{lastBelow}
+use Rattle.scope_table.proofs.Rows.{rows-before}
+use Rattle.scope_table.specs.Lists.{lastBelow}
 use Rattle.scope_lookup.specs.Inside.{Inside}
 use Rattle.scope_lookup.specs.Lookup.{hasPrefix, valueOr, uriPart, prefixPart}
 use Rattle.scope_lookup.specs.declared.Resolved.{Resolved}
@@ -32,7 +33,7 @@ use Rattle.scope_lookup.proofs.Resolved as E
 -- what a record in use is read with: its row is lent, and it ends within the text
 module _ (records : List ℕ) (count size i : ℕ) (s : Inside records count size) (h : i < count) where
   pub row-lent : rowAt (i + 1) ≤ length records
-  row-lent = omega (arith, s .rows)
+  row-lent = rows-before (i + 1) count (length records) (omega arith) (s .rows)
 
   pub record-ends : (b : NamespaceBinding) → b ≡ recordAt records i → valueEnd b ≤ size
   record-ends b e = rw e (s .each i h)
@@ -85,7 +86,7 @@ module _ (rows : ℕ → NamespaceBinding) (other : Resolved) where
 -- fewer records stand within as many bytes
 pub fewer : (records : List ℕ) (m n size : ℕ) → m ≤ n → Inside records n size → Inside records m size
 fewer records m n size h i =
-    record { rows = omega (arith, i .rows); small = i .small; each = λ k l. i .each k (omega arith) }
+    record { rows = rows-before m n (length records) h (i .rows); small = i .small; each = λ k l. i .each k (omega arith) }
 
 -- and within as many as there can be
 pub widest : (records : List ℕ) (n size : ℕ) → Inside records n size → Inside records n TEXT

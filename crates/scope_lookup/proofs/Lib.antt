@@ -1,4 +1,3 @@
-pub mod Last
 pub mod Laws
 pub mod Padded
 pub mod Numbers

@@ -20,12 +20,12 @@ use Rattle.scope_table.specs.declared.Head.{Head}
 use Rattle.scope_table.specs.declared.NamespaceBinding.{NamespaceBinding}
 use Rattle.scope_table.specs.declared.NamespaceResolver.{NamespaceResolver}
 use Rattle.scope_table.specs.declared.Form.the-variants as Is
-use Rattle.scope_lookup.specs.Last.{lastBelow}
+use Rattle.scope_table.specs.Lists.{lastBelow}
 use Rattle.scope_lookup.specs.Inside.{Inside}
 use Rattle.scope_lookup.specs.Lookup.{hasPrefix, explicitOf, amongOf, resolvePrefixOf}
 use Rattle.scope_lookup.specs.declared.Resolved.{Resolved}
 use Rattle.scope_lookup.specs.declared.Resolved.the-variants.{BadResolver, WrongLength}
-use Rattle.scope_lookup.proofs.Last.{last-same}
+use Rattle.scope_table.proofs.Last.{last-same}
 
 -- the prefix of a record that ends within the lent text
 pub pad-prefix : (m : ℕ) (text : List ℕ) (b : NamespaceBinding) → valueEnd b ≤ length text → prefixIn (padTo m text) b ≡ prefixIn text b

@@ -1,4 +1,4 @@
--- What a lookup asks of the records: the form of a resolver gives it (proofs/Inside).
+-- What a lookup asks of the records: the form of a resolver gives it (`ready-inside`, proofs/Padded).
 use Prim.Native.Nat.{ℕ, _≤_, _<_}
 use mathlib.Core.List.{List}
 use lib.ListN.{length}

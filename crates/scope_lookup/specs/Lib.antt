@@ -1,3 +1,2 @@
-pub mod Last
 pub mod Inside
 pub mod Lookup

@@ -8,11 +8,11 @@ use lib.Dec.{eqb}
 use Rattle.scan.specs.First.{pick}
 use Rattle.scan.specs.Bytes.{inside, sameBytes}
 use Rattle.name.specs.Split.{hasColon, prefixOf}
+use Rattle.scope_table.specs.Lists.{lastBelow}
 use Rattle.scope_table.specs.Records.{recordAt, valueStart, valueEnd, prefixIn}
 use Rattle.scope_table.specs.Table.{validOf}
 use Rattle.scope_table.specs.declared.NamespaceBinding.{NamespaceBinding}
 use Rattle.scope_table.specs.declared.NamespaceResolver.{NamespaceResolver}
-use Rattle.scope_lookup.specs.Last.{lastBelow}
 use Rattle.scope_lookup.specs.declared.Resolved.{Resolved}
 use Rattle.scope_lookup.specs.declared.Resolved.the-variants.{Bound, Unbound, Unknown, BadResolver, WrongLength}
 use Rattle.scope_lookup.specs.declared.Namespace as Optional

@@ -5,8 +5,9 @@
 // `prefix_part` hand back those bytes, the one as a part of the text and the other as a part of the name, each for as long
 // as its own slice lives.
 //
-// A name that ends in `_in` takes lent memory, any other a resolver by value. Each of them tests the form of the resolver
-// first (refusal 20).
+// Of the lookups, `resolve_in` and `resolve_prefix_in` take lent memory, and `resolve` and its kin a resolver by value; each
+// tests the form of the resolver first (refusal 20). `name_among` is for a caller that has made that test. What takes an
+// answer, as `namespace_of`, has no resolver to test.
 
 use scope_table::Form;
 use scope_table::Head;
@@ -15,14 +16,13 @@ use scope_table::Told;
 ghost use mathlib.Core.Path.{_≡_};
 ghost use mathlib.Core.Bool.{true, false};
 ghost use Prim.Native.Nat.{_≤_, _<_};
-ghost use mathlib.Core.List.{[], _∷_};
 ghost use lib.ListN.{length, take};
 ghost use Rattle.name.specs.Split.{hasColon, prefixOf, localOf};
+ghost use Rattle.scope_table.specs.Lists.{lastBelow};
 ghost use Rattle.scope_table.specs.Records.{recordAt};
 ghost use Rattle.scope_table.specs.Table.{TEXT};
 ghost use Rattle.scope_table.specs.Answer.{toldOf};
 ghost use Rattle.scope_table.specs.Lent.{lent};
-ghost use Rattle.scope_lookup.specs.Last.{lastBelow};
 ghost use Rattle.scope_lookup.specs.Inside.{Inside};
 ghost use Rattle.scope_lookup.specs.Lookup.{hasPrefix, isDefault, valueOr, explicitOf, defaultOf, amongOf, resolvePrefixOf, resolveOf, uriPart, prefixPart, namespaceOf, resolvedNumbers};
 ghost use Rattle.scope_lookup.specs.declared.Resolved.the-variants.{WrongLength};
@@ -36,7 +36,7 @@ pub enum Resolved {
     Unbound,
     // `p:a` with no `p`, or within `xmlns:p=""`; `:a` always: where the prefix stands
     Unknown(usize, usize),
-    // 20: a resolver that no calls leave
+    // 20: a resolver that is not of the form
     BadResolver,
     // 99: what the head says is in use is not lent, or more than the capacity is
     WrongLength,
@@ -152,7 +152,7 @@ fn default(records: &[usize], count: usize, wanted: bool) -> Resolved
 }
 
 // The arms of `NamespaceResolver::resolve_prefix`, src/name.rs, in a table of the right form.
-pub fn among<'t, 'n>(
+fn among<'t, 'n>(
     text: &'t [u8],
     records: &'t [usize],
     count: usize,
@@ -307,20 +307,10 @@ pub fn resolved_numbers(found: Resolved) -> Told
     ensures { λ r. ⌜ r ≡ toldOf (resolvedNumbers found) ⌝ }
 {
     match found {
-        Resolved::Bound(from, to) => tell(1, from, to),
-        Resolved::Unbound => tell(0, 0, 0),
-        Resolved::Unknown(from, to) => tell(2, from, to),
-        Resolved::BadResolver => tell(20, 0, 0),
-        Resolved::WrongLength => tell(99, 0, 0),
-    }
-}
-
-fn tell(number: usize, from: usize, to: usize) -> Told
-    ensures { λ r. ⌜ r ≡ toldOf (number ∷ from ∷ to ∷ []) ⌝ }
-{
-    Told {
-        number: number,
-        first: from,
-        second: to,
+        Resolved::Bound(from, to) => scope_table::told_of(1, from, to),
+        Resolved::Unbound => scope_table::told_of(0, 0, 0),
+        Resolved::Unknown(from, to) => scope_table::told_of(2, from, to),
+        Resolved::BadResolver => scope_table::told_of(20, 0, 0),
+        Resolved::WrongLength => scope_table::told_of(99, 0, 0),
     }
 }

@@ -39,12 +39,12 @@ use Rattle.scope_table.specs.declared.Head.{Head}
 use Rattle.scope_table.specs.declared.NamespaceBinding.{NamespaceBinding}
 use Rattle.scope_table.specs.declared.NamespaceResolver.{NamespaceResolver}
 use Rattle.scope_table.specs.declared.Form.the-variants as Is
-use Rattle.scope_lookup.specs.Last.{lastBelow}
+use Rattle.scope_table.specs.Lists.{lastBelow}
 use Rattle.scope_lookup.specs.Inside.{Inside}
 use Rattle.scope_lookup.specs.Lookup.{hasPrefix, isDefault, valueOr, explicitOf, defaultOf, amongOf, uriPart}
 use Rattle.scope_lookup.specs.declared.Resolved.{Resolved}
 use Rattle.scope_lookup.specs.declared.Resolved.the-variants.{Bound, Unbound, Unknown}
-use Rattle.scope_lookup.proofs.Last.{last-within}
+use Rattle.scope_table.proofs.Last.{last-within}
 use Rattle.scope_lookup.proofs.Padded.{pad-among, ready-inside}
 use Rattle.scope_nil.specs.Nil.{said, standsAt, leftBy, unmovedBy, isYes, instanceUri, isNil, saysNil, searchOf, searched, hasNilOf, heldNil, wholeSearch, nilOnKeys, keysFit, hasNilIn, Searchable, Resting}
 use Rattle.scope_nil.specs.declared.HasNil.{HasNil}

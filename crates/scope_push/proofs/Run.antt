@@ -24,6 +24,7 @@ use Rattle.scope_change.specs.Change.{boundOf}
 use Rattle.scope_change.specs.declared.Room.{Room}
 use Rattle.scope_declare.proofs.Laws.{isMore, declare-ways}
 use Rattle.scope_table.proofs.Lists.{and-left, and-right, and-take}
+use Rattle.scope_table.proofs.Rows.{rows-rise, rows-before, rows-within, row-fits}
 use Rattle.scope_table.proofs.Pad.{pad-take, pad-over, holds-within, holds-is}
 use Rattle.scope_table.proofs.Calls.{unchanged, changes, lends-more}
 use Rattle.scope_push.specs.Push.{Declaration, declareOne, thenOf, declareAll}
@@ -47,7 +48,7 @@ fits-within : (b n u c : ℕ) → u ≤ TEXT → c ≤ RECORDS → fitsOf b n u 
 unfolding fitsOf
 fits-within b n u c h k e =
     let x = holds-within TEXT b u h (and-left (holdsOf TEXT b u) _ e) in
-    let y = holds-within NUMBERS n (rowAt c) (omega arith) (and-right (holdsOf TEXT b u) _ e) in
+    let y = holds-within NUMBERS n (rowAt c) (rows-within c k) (and-right (holdsOf TEXT b u) _ e) in
     (x .0, x .1, y .0, y .1)
 
 -- What does not hold something holds nothing more either.
@@ -58,7 +59,7 @@ fits-not-more b n u c u' c' e hu hu' hc hc' = by (fitsOf b n u' c') refl where
   by false q = q
   by true q =
       let x = fits-within b n u' c' hu' hc' q in
-      absurd (false≢true (sym e ∙ and-take (holds-is TEXT b u (x .0) (omega arith)) (holds-is NUMBERS n (rowAt c) (x .2) (omega arith))))
+      absurd (false≢true (sym e ∙ and-take (holds-is TEXT b u (x .0) (omega arith)) (holds-is NUMBERS n (rowAt c) (x .2) (rows-before c c' n hc (x .3)))))
 
 -- A resolver only grows, and stays within the capacity.
 pub record Grows (x y : NamespaceResolver) : Type 0 where
@@ -133,7 +134,7 @@ module _ (p v t r : List ℕ) (h : Head) (small : h .used + (length p + length v
   row-in : rowAt (h .count) + length row ≤ length r
   row-in =
       let w = fits-within (length t) (length r) (h .used + (length p + length v)) (h .count + 1) small (omega arith) holds in
-      omega (arith, w .3)
+      row-fits (h .count) (length r) (bindingOf (h .used) (length p) (length v) (h .level)) (w .3)
 
   -- it is one binding more on the resolver
   bound-is : standsFor nextText nextRecords nextHead ≡ boundOf p v (standsFor t r h)
@@ -151,7 +152,7 @@ module _ (p v t r : List ℕ) (h : Head) (small : h .used + (length p + length v
   along-next t₀ r₀ h₀ a =
       let lt = over-length t (h .used) (p ++ v) text-in in
       let lr = over-length r (rowAt (h .count)) row row-in in
-      let f : rowAt (h₀ .count) ≤ rowAt (h .count) = omega (arith, a .after) in
+      let f : rowAt (h₀ .count) ≤ rowAt (h .count) = rows-rise (h₀ .count) (h .count) (a .after) in
       record {
         fits = rw (lt, lr) holds;
         small = small;

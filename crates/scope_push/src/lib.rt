@@ -18,23 +18,12 @@ use scope_table::NamespaceResolver;
 use scope_table::NamespaceResult;
 use scope_table::Outcome;
 ghost use mathlib.Core.Path.{_≡_};
-ghost use Prim.Native.Nat.{_-_};
 ghost use lib.ListN.{length};
 ghost use Rattle.scope_table.specs.Lent.{given, lentOf};
 ghost use Rattle.scope_change.specs.Change.{whole};
 ghost use Rattle.scope_change.specs.Asked.{CanAppend};
 ghost use Rattle.scope_push.specs.Push.{declarationOf, declareOne, tagDeclarations, pushOf};
 ghost use Rattle.scope_push.specs.Run.{oneByOne};
-
-// Where what ends at `end` and is so long starts, and 0 where there is no such place.
-fn start_of(end: usize, len: usize) -> usize
-    ensures { λ r. ⌜ r ≡ end - len ⌝ }
-{
-    if len < end {
-        return end - len;
-    }
-    0
-}
 
 // One attribute, whose key and value stand at these spans of the tag, goes in if it is a declaration.
 fn attribute<'a>(
@@ -54,7 +43,7 @@ fn attribute<'a>(
     let prefix = name::declared_prefix(key);
     let end = key_at.end;
     let at = Places {
-        prefix_start: start_of(end, prefix.len()),
+        prefix_start: scope_table::saturating_sub(end, prefix.len()),
         prefix_end: end,
         value_start: value_at.start,
         value_end: value_at.end,

@@ -6,11 +6,11 @@ use mathlib.Core.List.{List, [], _∷_, _++_}
 use native.Mathlib.Omega.{arith}
 use lib.Dec.{leb}
 use lib.ListN.{length, take, drop, replicate, length-append, length-replicate, replicate-append-replicate}
-use lib.Seq.{take-at, take-all, take-append-add}
+use lib.Seq.{take-at, drop-at, take-all, take-append-add}
 use borrow.Author.Tests.{leb-true, le-leb}
 use Rattle.scan.specs.Bytes.{bytes, bytesFrom}
 use Rattle.scan.specs.Lists.{over}
-use Rattle.scope_table.specs.Lists.{cut}
+use Rattle.scope_table.specs.Lists.{allZero, cut}
 use Rattle.scope_table.specs.Records.{ROW, rowAt}
 use Rattle.scope_table.specs.Table.{TEXT, NUMBERS, LIMIT, builtIn, builtInRows, headOf, resolverOf, freshOf}
 use Rattle.scope_table.specs.Answer.{changed}
@@ -18,7 +18,7 @@ use Rattle.scope_table.specs.Lent.{holdsOf, fitsOf, given, heldOf, fresh
 use Rattle.scope_table.specs.declared.Head.{Head}
 use Rattle.scope_table.specs.declared.NamespaceResult.the-variants.{Done, LendMore, WrongLength}
 use Rattle.scope_table.proofs.Lists.{and-left, and-right, and-take}
-use Rattle.scope_table.proofs.Pad.{holds-within}
+use Rattle.scope_table.proofs.Pad.{zeros-all, holds-within}
 use Rattle.scope_table.proofs.Full.{fits-full}
 
 abbrev zeros : ℕ → List ℕ
@@ -66,6 +66,23 @@ built-in-length = refl
 pub fresh-is : freshOf ≡ resolverOf (builtIn ++ zeros (TEXT - 73)) (builtInRows ++ zeros (NUMBERS - rowAt 2)) (headOf 73 2 0 LIMIT)
 unfolding freshOf
 fresh-is = refl
+
+-- its sizes, and that zeros follow its text and its records
+pub fresh-bytes : length (freshOf .text) ≡ TEXT
+unfolding freshOf
+fresh-bytes = length-append builtIn (zeros (TEXT - 73)) ∙ omega (arith, built-in-length, length-replicate {A = ℕ} (TEXT - 73) 0)
+
+pub fresh-numbers : length (freshOf .records) ≡ NUMBERS
+unfolding freshOf
+fresh-numbers = length-append builtInRows (zeros (NUMBERS - rowAt 2)) ∙ omega (arith, length-replicate {A = ℕ} (NUMBERS - rowAt 2) 0)
+
+pub fresh-rest-text : allZero (drop 73 (freshOf .text)) ≡ true
+unfolding freshOf
+fresh-rest-text = rw (drop-at builtIn (zeros (TEXT - 73)) 73 built-in-length) (zeros-all (TEXT - 73))
+
+pub fresh-rest-records : allZero (drop (rowAt 2) (freshOf .records)) ≡ true
+unfolding freshOf
+fresh-rest-records = rw (drop-at builtInRows (zeros (NUMBERS - rowAt 2)) (rowAt 2) refl) (zeros-all (NUMBERS - rowAt 2))
 
 -- The ways in which the call ends.
 module _ (text records : List ℕ) (head : Head) where

@@ -1,4 +1,5 @@
 pub mod Lists
+pub mod Last
 pub mod Bits
 pub mod Rows
 pub mod Turns

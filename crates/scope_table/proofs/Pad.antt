@@ -64,7 +64,7 @@ pad-pad m n xs h k =
 
 -- The test for zeros.
 
-zeros-all : (m : ℕ) → allZero (replicate m 0) ≡ true
+pub zeros-all : (m : ℕ) → allZero (replicate m 0) ≡ true
 unfolding allZero
 zeros-all zero = refl
 zeros-all (suc m) = and-take refl (zeros-all m)

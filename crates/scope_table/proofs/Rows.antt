@@ -1,18 +1,50 @@
--- A record as it is written: its numbers one by one are one write, and what is read after it is the record itself and the
--- records before it.
+-- Rows: where they stand, so that nothing else counts the numbers of one; a record as it is written, whose numbers one by one
+-- are one write, with what is read after it: the record itself and the records before it; and tables that have the same
+-- records.
 use Prim.Native.Nat.{ℕ, zero, suc, _+_, _≤_, _<_}
 use mathlib.Core.Path.{_≡_, refl, sym, ap, _∙_}
+use mathlib.Core.Bool.{true}
 use mathlib.Core.List.{List, _++_}
 use native.Mathlib.Nat.{add-zero}
+use native.Mathlib.Numerals.{add-one}
 use native.Mathlib.Omega.{arith}
 use lib.ListN.{length, take, drop, set, getD, length-append, List·getD-append}
-use lib.Seq.{paste, paste-zero, length-take-le, getD-append-add, getD-take}
+use lib.Seq.{paste, paste-zero, length-take-le, getD-append-add, getD-take, take-add, drop-cons}
 use Rattle.scan.specs.Lists.{over}
-use Rattle.scan.proofs.Lists.{paste-all, take-of-over}
+use Rattle.scan.proofs.Lists.{paste-all, take-of-over, drop-over}
+use Rattle.scope_table.specs.Lists.{allZero}
 use Rattle.scope_table.specs.Records.{ROW, rowAt, recordAt, rowOf}
-use Rattle.scope_table.specs.Table.{textOf, levelBefore}
+use Rattle.scope_table.specs.Table.{RECORDS, NUMBERS, textOf, levelBefore}
 use Rattle.scope_table.specs.declared.NamespaceBinding.{NamespaceBinding}
-use Rattle.scope_table.proofs.Lists.{paste-more}
+use Rattle.scope_table.proofs.Lists.{paste-more, zeros-later}
+
+-- Where rows stand.
+
+-- a later row stands no earlier
+pub rows-rise : (m n : ℕ) → m ≤ n → rowAt m ≤ rowAt n
+rows-rise m n h = omega arith
+
+-- where so many rows are within a length, fewer are
+pub rows-before : (m n size : ℕ) → m ≤ n → rowAt n ≤ size → rowAt m ≤ size
+rows-before m n size h k = omega arith
+
+-- as many rows as there are records are within the capacity
+pub rows-within : (n : ℕ) → n ≤ RECORDS → rowAt n ≤ NUMBERS
+rows-within n h = omega arith
+
+-- and so within a table of full size
+pub rows-full : (t : List ℕ) (n : ℕ) → length t ≡ NUMBERS → n ≤ RECORDS → rowAt n ≤ length t
+rows-full t n e h = omega arith
+
+-- the next row stands where a record ends
+pub row-next : (n : ℕ) (b : NamespaceBinding) → rowAt (n + 1) ≡ rowAt n + length (rowOf b)
+row-next n b = omega arith
+
+-- so a record whose next row is lent is lent itself
+pub row-fits : (n size : ℕ) (b : NamespaceBinding) → rowAt (n + 1) ≤ size → rowAt n + length (rowOf b) ≤ size
+row-fits n size b h = omega arith
+
+-- Writing a record.
 
 -- the numbers of a record, written one by one
 pub row-written : (t : List ℕ) (i : ℕ) (b : NamespaceBinding) → rowAt i + ROW ≤ length t → set (set (set (set t (rowAt i) (b .start)) (rowAt i + 1) (b .«prefix_len»)) (rowAt i + 2) (b .«value_len»)) (rowAt i + 3) (b .level) ≡ over t (rowAt i) (rowOf b)
@@ -76,3 +108,27 @@ pub before-same : (n i : ℕ) (rows others : ℕ → NamespaceBinding) → Same 
 unfolding levelBefore
 before-same n zero rows others s h = refl
 before-same n (suc i) rows others s h = ap (λ (b : NamespaceBinding). b .level) (s i h)
+
+-- where zeros follow, zeros follow the record that is written
+pub rest-after : (t : List ℕ) (n : ℕ) (b : NamespaceBinding) → rowAt (n + 1) ≤ length t → allZero (drop (rowAt n) t) ≡ true → allZero (drop (rowAt (n + 1)) (over t (rowAt n) (rowOf b))) ≡ true
+rest-after t n b h z =
+    rw (row-next n b, drop-over t (rowAt n) (rowOf b) (row-fits n (length t) b h))
+    (zeros-later t (rowAt n) (rowAt n + length (rowOf b)) (omega arith) z)
+
+-- The numbers of a record are what stands in its row; so tables with the same records are the same there.
+
+row-stands : (t : List ℕ) (n : ℕ) → rowAt n + ROW ≤ length t → take ROW (drop (rowAt n) t) ≡ rowOf (recordAt t n)
+row-stands t n h =
+    let a = rowAt n in
+    let one : a + 1 ≡ suc a = add-one a in
+    let two : a + 2 ≡ suc (suc a) = omega arith in
+    let three : a + 3 ≡ suc (suc (suc a)) = omega arith in
+    rw (drop-cons t a 0 (omega arith), drop-cons t (suc a) 0 (omega arith), drop-cons t (suc (suc a)) 0 (omega arith), drop-cons t (suc (suc (suc a))) 0 (omega arith), one, two, three)
+
+pub take-same : (n : ℕ) (l m : List ℕ) → rowAt n ≤ length l → rowAt n ≤ length m → Same n (recordAt l) (recordAt m) → take (rowAt n) l ≡ take (rowAt n) m
+take-same zero l m h k s = refl
+take-same (suc n) l m h k s =
+    let e : rowAt (suc n) ≡ rowAt n + ROW = omega arith in
+    let i = take-same n l m (omega arith) (omega arith) (λ j b. s j (omega arith)) in
+    rw (e, take-add (rowAt n) ROW l, take-add (rowAt n) ROW m, row-stands l n (omega arith), row-stands m n (omega arith), i)
+    (ap (λ (b : NamespaceBinding). take (rowAt n) m ++ rowOf b) (s n (omega arith)))

@@ -17,14 +17,14 @@
 ghost use mathlib.Core.Path.{_≡_};
 ghost use mathlib.Core.Bool.{true, _&&_};
 ghost use lib.Dec.{leb};
-ghost use Prim.Native.Nat.{_+_, _≤_};
+ghost use Prim.Native.Nat.{_+_, _-_, _≤_};
 ghost use mathlib.Core.List.{[], _∷_};
 ghost use lib.ListN.{length, take, drop};
 ghost use Rattle.scan.specs.Bytes.{sameBytes};
 ghost use Rattle.scan.specs.Lists.{over};
 ghost use Rattle.scope_table.specs.Lists.{allZero, cut};
-ghost use Rattle.scope_table.specs.Records.{rowAt, recordAt, rowOf, valueStart, valueEnd, prefixIn, valueIn};
-ghost use Rattle.scope_table.specs.Table.{TEXT, NUMBERS, builtIn, builtInRows, isRecord, opensBuiltIn, isChain, isRising, isWithin, isTable, validOf, freshOf};
+ghost use Rattle.scope_table.specs.Records.{rowAt, recordAt, rowOf, valueStart, valueEnd, prefixIn};
+ghost use Rattle.scope_table.specs.Table.{TEXT, RECORDS, NUMBERS, builtIn, builtInRows, isRecord, opensBuiltIn, isChain, isRising, isWithin, isTable, validOf, freshOf};
 ghost use Rattle.scope_table.specs.Answer.{changeNumbers, toldOf};
 ghost use Rattle.scope_table.specs.Lent.{holdsOf, fitsOf, given, freshIn, formOf};
 
@@ -83,7 +83,7 @@ pub enum NamespaceResult {
     BindingTableFull,
     // 19: the 65,536 bytes of text do not hold prefix and value
     TextFull,
-    // 20: a resolver that no calls leave
+    // 20: a resolver that is not of the form
     BadResolver,
     // 98: what the call would leave is more than is lent; nothing is changed
     LendMore,
@@ -188,16 +188,6 @@ impl NamespaceBinding {
         let to = from + self.prefix_len;
         &text[from..to]
     }
-
-    // Its value, which stands right after it: `NamespaceBinding::namespace`.
-    pub fn namespace(self, text: &[u8]) -> &[u8]
-        requires { ⌜ valueEnd self ≤ length (now text) ⌝ }
-        ensures { λ r. ⌜ now r ≡ valueIn (now (text .entry)) self ⌝ }
-    {
-        let from = self.start + self.prefix_len;
-        let to = from + self.value_len;
-        &text[from..to]
-    }
 }
 
 // Record i.
@@ -250,8 +240,8 @@ pub fn clear_bytes(t: &mut [u8], from: usize, to: usize)
     }
 }
 
-// The same in the records.
-pub fn clear_numbers(t: &mut [usize], from: usize, to: usize)
+// The same in numbers.
+fn clear_numbers(t: &mut [usize], from: usize, to: usize)
     requires { ⌜ (to ≤ length (now t)) × (allZero (drop to (now t)) ≡ true) ⌝ }
     ensures { λ _. ⌜ now (t .exit) ≡ cut (now (t .entry)) from ⌝ }
 {
@@ -260,6 +250,36 @@ pub fn clear_numbers(t: &mut [usize], from: usize, to: usize)
         t[i] = 0;
         i += 1;
     }
+}
+
+// Writes zeros into the records from record `from` up to record `to`, from where on there are only zeros.
+pub fn clear_rows(records: &mut [usize], from: usize, to: usize)
+    requires { ⌜ (from ≤ to) × (rowAt to ≤ length (now records)) × (allZero (drop (rowAt to) (now records)) ≡ true) ⌝ }
+    ensures { λ _. ⌜ now (records .exit) ≡ cut (now (records .entry)) (rowAt from) ⌝ }
+{
+    let first = NamespaceResolver::ROW * from;
+    let last = NamespaceResolver::ROW * to;
+    clear_numbers(records, first, last);
+}
+
+// From record `from` on, whatever stands there.
+pub fn clear_rows_from(records: &mut [usize], from: usize)
+    requires { ⌜ from ≤ RECORDS ⌝ }
+    ensures { λ _. ⌜ now (records .exit) ≡ cut (now (records .entry)) (rowAt from) ⌝ }
+{
+    let first = NamespaceResolver::ROW * from;
+    let numbers = records.len();
+    clear_numbers(records, first, numbers);
+}
+
+// What is left of `all` when `some` are taken, and 0 where there are fewer: `usize::saturating_sub`.
+pub fn saturating_sub(all: usize, some: usize) -> usize
+    ensures { λ r. ⌜ r ≡ all - some ⌝ }
+{
+    if some < all {
+        return all - some;
+    }
+    0
 }
 
 // Whether a list of this length that is lent holds what is in use.
@@ -293,8 +313,9 @@ pub fn fits(bytes: usize, numbers: usize, used: usize, count: usize) -> bool
 }
 
 // Whether a text is zero from `from` on, as far as it is lent. All bytes go into one by `|`, with no early exit, so that LLVM
-// makes a vector loop of it: with much memory lent, this is most of what the test of a resolver costs. That loop begins at a
-// multiple of 16 bytes, since a vector that lies across two lines of the cache takes longer to load.
+// makes a vector loop of it: with much memory lent, this is most of what the test of a resolver costs. That loop begins at an
+// index that is a multiple of 16: where the text itself begins at such an address, which nothing promises of a lent one, no
+// vector lies across two lines of the cache, which would take longer to load.
 fn zero_bytes(t: &[u8], from: usize) -> bool
     ensures { λ r. ⌜ r ≡ allZero (drop from (now (t .entry))) ⌝ }
 {
@@ -314,7 +335,7 @@ fn zero_bytes(t: &[u8], from: usize) -> bool
     bits == 0
 }
 
-// The same of numbers: a row begins at a multiple of 32 bytes.
+// The same of numbers: a row begins at a multiple of 32 bytes from the first.
 fn zero_numbers(t: &[usize], from: usize) -> bool
     ensures { λ r. ⌜ r ≡ allZero (drop from (now (t .entry))) ⌝ }
 {
@@ -577,22 +598,23 @@ pub fn change_numbers(answer: NamespaceResult) -> Told
     ensures { λ r. ⌜ r ≡ toldOf (changeNumbers answer) ⌝ }
 {
     match answer {
-        NamespaceResult::Done => tell(0, 0, 0),
-        NamespaceResult::InvalidXmlPrefixBind(a, e) => tell(12, a, e),
-        NamespaceResult::InvalidXmlnsPrefixBind(a, e) => tell(13, a, e),
-        NamespaceResult::InvalidPrefixForXml(a, e) => tell(14, a, e),
-        NamespaceResult::InvalidPrefixForXmlns(a, e) => tell(15, a, e),
-        NamespaceResult::TooManyBindings(limit) => tell(16, limit, 0),
-        NamespaceResult::TooDeeplyNested(depth) => tell(17, depth, 0),
-        NamespaceResult::BindingTableFull => tell(18, 0, 0),
-        NamespaceResult::TextFull => tell(19, 0, 0),
-        NamespaceResult::BadResolver => tell(20, 0, 0),
-        NamespaceResult::LendMore => tell(98, 0, 0),
-        NamespaceResult::WrongLength => tell(99, 0, 0),
+        NamespaceResult::Done => told_of(0, 0, 0),
+        NamespaceResult::InvalidXmlPrefixBind(a, e) => told_of(12, a, e),
+        NamespaceResult::InvalidXmlnsPrefixBind(a, e) => told_of(13, a, e),
+        NamespaceResult::InvalidPrefixForXml(a, e) => told_of(14, a, e),
+        NamespaceResult::InvalidPrefixForXmlns(a, e) => told_of(15, a, e),
+        NamespaceResult::TooManyBindings(limit) => told_of(16, limit, 0),
+        NamespaceResult::TooDeeplyNested(depth) => told_of(17, depth, 0),
+        NamespaceResult::BindingTableFull => told_of(18, 0, 0),
+        NamespaceResult::TextFull => told_of(19, 0, 0),
+        NamespaceResult::BadResolver => told_of(20, 0, 0),
+        NamespaceResult::LendMore => told_of(98, 0, 0),
+        NamespaceResult::WrongLength => told_of(99, 0, 0),
     }
 }
 
-fn tell(number: usize, first: usize, second: usize) -> Told
+// An answer's number and its values together.
+pub fn told_of(number: usize, first: usize, second: usize) -> Told
     ensures { λ r. ⌜ r ≡ toldOf (number ∷ first ∷ second ∷ []) ⌝ }
 {
     Told {

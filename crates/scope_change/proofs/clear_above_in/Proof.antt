@@ -24,19 +24,14 @@ clear-bytes-requires c κs =
     let r = ok (c .before .before .before .before .before .before .before) in
     (r .bytes-lent, r .table .rest-text)
 
-mul-row : tie.Need-mul-row
-mul-row c =
-    let s = c .before .before .before .before .before .before .before .before .before .before in
+clear-rows-requires : tie.Need-clear-rows-requires
+clear-rows-requires c κs =
+    let s = c .before .before .before .before .before .before .before .before .before .before .before in
     let a = s .args in
-    omega (arith, ok s .table .bounds .few-records, k-within (a .text .now) (a .records .now) (a .head) (ok s) (a .to) (c .before .before .before .before .before .before .kept .result) (c .before .before .before .before .text-end .result) (c .before .before .before .before .before .before .kept .ensures) (c .before .before .before .before .text-end .ensures))
-
-mul-rows : tie.Need-mul-rows
-mul-rows c = omega (arith, ok (c .before .before .before .before .before .before .before .before .before .before) .table .bounds .few-records)
-
-clear-numbers-requires : tie.Need-clear-numbers-requires
-clear-numbers-requires c κs =
-    let r = ok (c .before .before .before .before .before .before .before .before .before .before .before) in
-    (r .rows-lent, r .table .rest-records)
+    let r = ok s in
+    let k = c .before .before .before .before .before .before .before .kept in
+    let e = c .before .before .before .before .before .text-end in
+    (k-within (a .text .now) (a .records .now) (a .head) r (a .to) (k .result) (e .result) (k .ensures) (e .ensures), r .rows-lent, r .table .rest-records)
 
 same-length : tie.Need-same-length
 same-length c = search needs
@@ -48,7 +43,9 @@ returns : tie.Need-returns
 returns c =
     let s = c .before .before .before .before .before .before .before .before .before .before .before .before .before .before in
     let a = s .args in
-    level-done (a .text .now) (a .records .now) (a .head) (ok s) (a .to) (c .before .before .before .before .before .before .before .before .before .before .kept .result) (c .before .before .before .before .before .before .before .before .text-end .result) (c .before .before .before .before .before .before .before .before .before .before .kept .ensures) (c .before .before .before .before .before .before .before .before .text-end .ensures) _ _ (c .before .before .before .before .before .before .clear-bytes .ensures) (c .before .before .clear-numbers .ensures)
+    let k = c .before .before .before .before .before .before .before .before .before .before .kept in
+    let e = c .before .before .before .before .before .before .before .before .text-end in
+    level-done (a .text .now) (a .records .now) (a .head) (ok s) (a .to) (k .result) (e .result) (k .ensures) (e .ensures) _ _ (c .before .before .before .before .before .before .clear-bytes .ensures) (c .before .before .clear-rows .ensures)
 
 pub clear-above-in-spec : {M : Type 1} → statement M
 clear-above-in-spec =
@@ -57,9 +54,7 @@ clear-above-in-spec =
     kept-requires
     text-end-requires
     clear-bytes-requires
-    mul-row
-    mul-rows
-    clear-numbers-requires
+    clear-rows-requires
     same-length
     same-length-2
     returns)

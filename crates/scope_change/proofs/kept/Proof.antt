@@ -1,10 +1,10 @@
 -- `scope_change::kept` meets its contract: what is kept of n records is what is kept of the first i. The measure is i.
 use Prim.Native.Nat.{_≤_}
-use mathlib.Core.Path.{_≡_, refl, sym, ap, _∙_}
+use mathlib.Core.Path.{_≡_, refl, sym, _∙_}
 use native.Mathlib.Omega.{arith}
 use Rattle.scope_table.specs.Records.{recordAt}
 use Rattle.scope_change.specs.Change.{keptAt}
-use Rattle.scope_change.proofs.Change.{keep-hit, keep-miss}
+use Rattle.scope_change.proofs.Change.{keep-hit, keep-miss, keep-none}
 use Rattle.scope_change.proofs.kept.Statement.{statement}
 use Rattle.scope_change.proofs.kept.Tie as tie
 
@@ -39,12 +39,10 @@ loop-again c =
     (omega arith, l .inv .1 ∙ keep-miss (recordAt (a .records .now)) (a .level) (l .i) _ (omega arith) (c .before .before .record-at .ensures) (c .if1 .left))
 
 returns-2 : tie.Need-returns-2 Inv-loop μ-loop
-unfolding keptAt
 returns-2 c =
     let l = c .before .loop in
     let a = c .before .before .before .args in
-    let z : l .i ≡ 0 = omega arith in
-    sym (l .inv .1 ∙ ap (keptAt (recordAt (a .records .now)) (a .level)) z)
+    sym (l .inv .1 ∙ keep-none (recordAt (a .records .now)) (a .level) (l .i) (omega arith))
 
 pub kept-spec : {M : Type 1} → statement M
 kept-spec =

@@ -8,11 +8,8 @@ use Rattle.scope_change.proofs.take_back.Tie as tie
 clear-bytes-requires : tie.Need-clear-bytes-requires
 clear-bytes-requires c κs = (omega arith, all-read (c .before .before .before .args .text .now))
 
-mul-row : tie.Need-mul-row
-mul-row c = search needs
-
-clear-numbers-requires : tie.Need-clear-numbers-requires
-clear-numbers-requires c κs = (omega arith, all-read (c .before .before .before .before .before .before .before .args .records .now))
+clear-rows-from-requires : tie.Need-clear-rows-from-requires
+clear-rows-from-requires c κs = search needs
 
 same-length : tie.Need-same-length
 same-length c = search needs
@@ -28,8 +25,7 @@ take-back-spec =
     tie.close
     (tie.spec
     clear-bytes-requires
-    mul-row
-    clear-numbers-requires
+    clear-rows-from-requires
     same-length
     same-length-2
     returns)

@@ -22,8 +22,8 @@ enum-told-2 c = search needs
 enum-told-3 : tie.Need-enum-told-3
 enum-told-3 c = search needs
 
-below-requires : tie.Need-below-requires
-below-requires c κs = search needs
+saturating-sub-requires : tie.Need-saturating-sub-requires
+saturating-sub-requires c κs = search needs
 
 clear-above-in-requires : tie.Need-clear-above-in-requires
 clear-above-in-requires c κs = sym (c .before .before .before .before .before .form-in .ensures) ∙ c .before .before .before .enum-told3 .given .1
@@ -61,7 +61,7 @@ returns-3 : tie.Need-returns-3
 unfolding popOf
 returns-3 c =
     let a = c .before .before .before .before .before .before .before .before .before .before .before .before .before .before .before .args in
-    c .before .before .before .before .clear-above-in .ensures ∙ same-call (a .text .now) (a .records .now) (a .head) (levelOf (c .before .before .before .before .before .below .result)) popOf (rw (c .before .before .before .before .before .below .ensures))
+    c .before .before .before .before .clear-above-in .ensures ∙ same-call (a .text .now) (a .records .now) (a .head) (levelOf (c .before .before .before .before .before .before .before .saturating-sub .result)) popOf (rw (c .before .before .before .before .before .before .before .saturating-sub .ensures))
 
 pub pop-in-spec : {M : Type 1} → statement M
 pop-in-spec =
@@ -71,7 +71,7 @@ pop-in-spec =
     enum-told
     enum-told-2
     enum-told-3
-    below-requires
+    saturating-sub-requires
     clear-above-in-requires
     same-length
     same-length-2

@@ -10,13 +10,14 @@ use Rattle.scan.specs.Bytes.{sameBytes}
 use Rattle.scan.proofs.Laws.{to-hit, to-miss, to-past}
 use Rattle.scope_table.specs.Records.{recordAt, prefixIn}
 use Rattle.scope_table.specs.declared.NamespaceBinding.{NamespaceBinding}
+use Rattle.scope_lookup.specs.Lookup.{hasPrefix}
 use Rattle.scope_lookup.proofs.Laws.{row-lent, record-ends}
 use Rattle.scope_listing.proofs.first_with.Statement.{statement}
 use Rattle.scope_listing.proofs.first_with.Tie as tie
 
 -- the test that is searched with
 abbrev passes : (text records prefix : List ℕ) (i : ℕ) → Bool
-passes text records prefix i = sameBytes (prefixIn text (recordAt records i)) prefix
+passes text records prefix i = hasPrefix text prefix (recordAt records i)
 
 abbrev Inv-loop : tie.InvT-loop
 Inv-loop text records from count prefix i₀ i = firstTo (passes text records prefix) from count ≡ firstTo (passes text records prefix) i count
@@ -41,6 +42,7 @@ same-requires : tie.Need-same-requires Inv-loop μ-loop
 same-requires c κs = search needs
 
 returns : tie.Need-returns Inv-loop μ-loop
+unfolding hasPrefix
 returns c =
     let a = c .before .before .before .before .before .before .before .before .before .args in
     let r = c .before .before .before .record-at in
@@ -54,6 +56,7 @@ loop-less : tie.Need-loop-less Inv-loop μ-loop
 loop-less c = search needs
 
 loop-again : tie.Need-loop-again Inv-loop μ-loop
+unfolding hasPrefix
 loop-again c =
     let a = c .before .before .before .before .before .before .before .before .before .args in
     let r = c .before .before .before .record-at in

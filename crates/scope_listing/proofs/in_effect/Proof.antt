@@ -9,9 +9,9 @@ use borrow.Author.Tests.{eq-eqb, ne-eqb}
 use lib.Dec.{ltb}
 use lib.ListN.{length}
 use Rattle.scan.specs.First.{firstTo}
-use Rattle.scan.specs.Bytes.{sameBytes}
 use Rattle.scope_table.specs.Records.{recordAt, prefixIn}
 use Rattle.scope_table.specs.declared.NamespaceBinding.{NamespaceBinding}
+use Rattle.scope_lookup.specs.Lookup.{hasPrefix}
 use Rattle.scope_lookup.proofs.Laws.{row-lent, record-ends}
 use Rattle.scope_listing.specs.Listing.{hasValue, isOverridden, inEffect}
 use Rattle.scope_listing.proofs.Laws.{and-not, leb-not}
@@ -50,7 +50,7 @@ returns-2 c =
     let v : hasValue (recordAt (a .records .now) (a .i)) ≡ true = ap not (ne-eqb _ _ (λ e. c .before .before .if1 .left (ap (λ (b : NamespaceBinding). b .«value_len») (r .ensures) ∙ e))) in
     let q = c .before .prefix .ensures ∙ ap (prefixIn (a .text .now)) (r .ensures) in
     leb-not (c .first-with .result) (a .count)
-    ∙ ap (λ (f : ℕ). not (ltb f (a .count))) (c .first-with .ensures ∙ ap (λ (p : List ℕ). firstTo (λ j. sameBytes (prefixIn (a .text .now) (recordAt (a .records .now) j)) p) (a .i + 1) (a .count)) q)
+    ∙ ap (λ (f : ℕ). not (ltb f (a .count))) (c .first-with .ensures ∙ ap (λ (p : List ℕ). firstTo (λ j. hasPrefix (a .text .now) p (recordAt (a .records .now) j)) (a .i + 1) (a .count)) q)
     ∙ sym (and-not (hasValue (recordAt (a .records .now) (a .i))) (isOverridden (a .text .now) (recordAt (a .records .now)) (a .count) (a .i)) v)
 
 pub in-effect-spec : {M : Type 1} → statement M

@@ -7,7 +7,7 @@ use borrow.Author.Tests.{not-true, not-false}
 use Rattle.scope_table.specs.Records.{recordAt}
 use Rattle.scope_table.specs.Table.{TEXT}
 use Rattle.scope_lookup.specs.Lookup.{isDefault, defaultOf}
-use Rattle.scope_lookup.proofs.Last.{last-within}
+use Rattle.scope_table.proofs.Last.{last-within}
 use Rattle.scope_lookup.proofs.Laws.{fewer}
 use Rattle.scope_lookup.proofs.default.Statement.{statement}
 use Rattle.scope_lookup.proofs.default.Tie as tie

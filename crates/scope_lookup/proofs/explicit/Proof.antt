@@ -9,7 +9,7 @@ use borrow.Author.Tests.{eq-eqb, ne-eqb}
 use Rattle.scope_table.specs.Records.{recordAt}
 use Rattle.scope_table.specs.Table.{TEXT}
 use Rattle.scope_lookup.specs.Lookup.{hasPrefix, explicitOf}
-use Rattle.scope_lookup.proofs.Last.{last-within}
+use Rattle.scope_table.proofs.Last.{last-within}
 use Rattle.scope_lookup.proofs.Laws.{fewer, widest}
 use Rattle.scope_lookup.proofs.explicit.Statement.{statement}
 use Rattle.scope_lookup.proofs.explicit.Tie as tie

@@ -8,9 +8,9 @@ use borrow.Author.Needs.{needs}
 use borrow.Author.Tests.{eq-eqb, ne-eqb}
 use Rattle.scope_table.specs.Records.{recordAt}
 use Rattle.scope_table.specs.Table.{TEXT}
-use Rattle.scope_lookup.specs.Last.{lastBelow}
+use Rattle.scope_table.specs.Lists.{lastBelow}
 use Rattle.scope_lookup.specs.Lookup.{isDefault}
-use Rattle.scope_lookup.proofs.Last.{last-hit, last-miss, last-none}
+use Rattle.scope_table.proofs.Last.{last-hit, last-miss, last-none}
 use Rattle.scope_lookup.proofs.Laws.{row-lent}
 use Rattle.scope_lookup.proofs.last_default.Statement.{statement}
 use Rattle.scope_lookup.proofs.last_default.Tie as tie

@@ -6,9 +6,9 @@ use mathlib.Core.List.{List}
 use native.Mathlib.Omega.{arith}
 use lib.ListN.{length, take}
 use Rattle.scope_table.specs.Records.{recordAt, valueEnd}
-use Rattle.scope_lookup.specs.Last.{lastBelow}
+use Rattle.scope_table.specs.Lists.{lastBelow}
 use Rattle.scope_lookup.specs.Lookup.{hasPrefix}
-use Rattle.scope_lookup.proofs.Last.{last-hit, last-miss, last-none}
+use Rattle.scope_table.proofs.Last.{last-hit, last-miss, last-none}
 use Rattle.scope_lookup.proofs.Laws.{row-lent, record-ends, unlike-length, like-length, unlike-last}
 use Rattle.scope_lookup.proofs.last_with.Statement.{statement}
 use Rattle.scope_lookup.proofs.last_with.Tie as tie

@@ -11,8 +11,8 @@ as-namespace-binding-requires c κs = search needs
 declared-prefix-requires : tie.Need-declared-prefix-requires
 declared-prefix-requires c κs = search needs
 
-start-of-requires : tie.Need-start-of-requires
-start-of-requires c κs = search needs
+saturating-sub-requires : tie.Need-saturating-sub-requires
+saturating-sub-requires c κs = search needs
 
 declare-in-requires : tie.Need-declare-in-requires
 declare-in-requires c κs = c .before .before .before .before .before .before .before .before .before .pre
@@ -25,7 +25,7 @@ same-length-2 c = search needs
 
 returns : tie.Need-returns
 unfolding declarationOf
-returns c = c .before .before .before .before .declare-in .ensures ∙ rw (c .before .before .before .before .before .before .before .start-of .ensures, c .before .before .before .before .before .before .before .before .declared-prefix .ensures, c .before .before .before .before .before .before .before .before .before .as-namespace-binding .ensures)
+returns c = c .before .before .before .before .declare-in .ensures ∙ rw (c .before .before .before .before .before .before .before .saturating-sub .ensures, c .before .before .before .before .before .before .before .before .declared-prefix .ensures, c .before .before .before .before .before .before .before .before .before .as-namespace-binding .ensures)
 
 pub attribute-spec : {M : Type 1} → statement M
 attribute-spec =
@@ -33,7 +33,7 @@ attribute-spec =
     (tie.spec
     as-namespace-binding-requires
     declared-prefix-requires
-    start-of-requires
+    saturating-sub-requires
     declare-in-requires
     same-length
     same-length-2

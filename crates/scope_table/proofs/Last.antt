@@ -6,7 +6,7 @@ use mathlib.Core.Bool.{Bool, true, false}
 use native.Mathlib.Nat.{not-suc-le-zero}
 use native.Mathlib.Numerals.{sub-one}
 use native.Mathlib.Omega.{arith}
-use Rattle.scope_lookup.specs.Last.{lastBelow}
+use Rattle.scope_table.specs.Lists.{lastBelow}
 
 module _ (p : ℕ → Bool) where
   pub last-hit : (i : ℕ) → 0 < i → p (i - 1) ≡ true → lastBelow p i ≡ i
