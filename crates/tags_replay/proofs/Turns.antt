@@ -19,31 +19,9 @@ use Rattle.scan.specs.Lists.{over}
 use Rattle.scan.proofs.Lists.{over-length}
 use Rattle.batch.specs.Batch.{fivesOf, leftOf, roomOf}
 use Rattle.lines.proofs.Batches.{stand-first, stand-last, fives-length, fives-append, run-most, run-full}
-use Rattle.tags_replay.specs.Replay.{twoAt, twosOf, agreesWith}
-
-pub twos-length : (n : ℕ) (l : List ℕ) → length (twosOf n l) ≡ n
-unfolding twosOf
-twos-length zero l = refl
-twos-length (suc n) l = ap suc (twos-length n (drop 2 l))
-
-pub twos-at : (n : ℕ) (l : List ℕ) (i : ℕ) → i < n → getD (twosOf n l) i 0 ≡ twoAt l (2 * i)
-unfolding twosOf
-twos-at zero l i h = absurd (omega arith)
-twos-at (suc n) l zero h = refl
-twos-at (suc n) l (suc i) h =
-    let a : 2 + 2 * i ≡ 2 * suc i = omega arith in
-    let b : 2 + (2 * i + 1) ≡ 2 * suc i + 1 = omega arith in
-    twos-at n (drop 2 l) i (omega arith) ∙ rw (getD-drop 2 l (2 * i) 0, getD-drop 2 l (2 * i + 1) 0, a, b)
-
-pub twos-add : (n m : ℕ) (l : List ℕ) → twosOf (n + m) l ≡ twosOf n l ++ twosOf m (drop (2 * n) l)
-unfolding twosOf
-twos-add zero m l =
-    let e : 0 + m ≡ m = omega arith in
-    rw e
-twos-add (suc n) m l =
-    let e : suc n + m ≡ suc (n + m) = omega arith in
-    let d : 2 + 2 * n ≡ 2 * suc n = omega arith in
-    rw (e, twos-add n m (drop 2 l), drop-drop (2 * n) 2 l, d)
+use Rattle.replay.specs.Numbers.{twosOf}
+use Rattle.replay.proofs.Twos.{twos-length, twos-add}
+use Rattle.tags_replay.specs.Replay.{agreesWith}
 
 same-append : (a b c d : List ℕ) → length a ≡ length c → sameBytes (a ++ b) (c ++ d) ≡ (sameBytes a c && sameBytes b d)
 unfolding sameBytes

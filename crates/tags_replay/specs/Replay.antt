@@ -1,9 +1,8 @@
--- What a replay counts: the records from the start on whose answers are those of the iterator's definitions, up to the first
--- that differs or is cut short.
-use Prim.Native.Nat.{ℕ, zero, suc, _+_, _-_, _*_, _/_, _≤_}
+-- What a record of a tag is, and when its answers are those of the iterator's definitions.
+use Prim.Native.Nat.{ℕ, _+_, _-_, _*_, _/_, _≤_}
 use mathlib.Core.Path.{_≡_}
 use mathlib.Core.Bool.{Bool}
-use mathlib.Core.List.{List, [], _∷_}
+use mathlib.Core.List.{List}
 use lib.ListN.{length, drop, getD}
 use lib.Dec.{eqb, ltb}
 use Rattle.scan.specs.First.{pick}
@@ -14,20 +13,11 @@ use Rattle.attributes.specs.declared.Place.the-variants.{Next}
 use Rattle.attributes.specs.Next.{opened, lentState}
 use Rattle.attributes.specs.Run.{answersOf}
 use Rattle.batch.specs.Batch.{fivesOf}
-use Rattle.tags_replay.specs.declared.Step.{Step}
-use Rattle.tags_replay.specs.declared.Step.the-variants.{Agrees, Differs, Cut}
-use Rattle.tags_replay.specs.declared.End.{End}
-use Rattle.tags_replay.specs.declared.End.the-variants.{All, Differs as DiffersAt, Cut as CutAt}
-use Rattle.tags_replay.specs.declared.Replayed.{Replayed}
-
--- a number of two bytes, the lower one first
-abbrev pub twoAt : List ℕ → ℕ → ℕ
-twoAt s at = getD s at 0 + 256 * getD s (at + 1) 0
-
--- the first n of them
-unfoldable pub twosOf : ℕ → List ℕ → List ℕ
-twosOf zero s = []
-twosOf (suc n) s = twoAt s 0 ∷ twosOf n (drop 2 s)
+use Rattle.replay.specs.declared.Step.{Step}
+use Rattle.replay.specs.declared.Step.the-variants.{Agrees, Differs, Cut}
+use Rattle.replay.specs.declared.Replayed.{Replayed}
+use Rattle.replay.specs.Numbers.{twoAt, twosOf}
+use Rattle.replay.specs.Run.{replayEach}
 
 -- the recorded numbers, five for each of so many answers, are those of the answers
 unfoldable pub agreesWith : List ℕ → IterState → (answers : ℕ) → (recorded : List ℕ) → Bool
@@ -54,7 +44,7 @@ tailAgrees tag tail =
 unfoldable pub tailOf : (rest : List ℕ) → (n : ℕ) → (tail : List ℕ) → Step
 tailOf rest n tail =
     pick (ltb ((length tail - 6) / 10) (twoAt tail 4)) Cut
-    (pick (tailAgrees (part rest 2 (2 + n)) tail) (Agrees (8 + n + 10 * twoAt tail 4)) Differs)
+    (pick (tailAgrees (part rest 2 (2 + n)) tail) (Agrees (8 + n + 10 * twoAt tail 4) 0 0) Differs)
 
 unfoldable pub recordOf : List ℕ → Step
 recordOf rest =
@@ -62,29 +52,5 @@ recordOf rest =
     (pick (ltb (length rest - 8) (twoAt rest 0)) Cut
     (tailOf rest (twoAt rest 0) (drop (2 + twoAt rest 0) rest)))
 
--- the bytes that a step passes
-abbrev pub sizeOf : Step → ℕ
-sizeOf (Agrees size) = size
-sizeOf Differs = 0
-sizeOf Cut = 0
-
-abbrev pub stopped : ℕ → End → Replayed
-stopped tags end = record { tags = tags; end = end }
-
--- a record that agrees is counted, and the later ones decide; any other ends the run where it stands
-abbrev pub follow : Step → (at tags : ℕ) → (later : Replayed) → Replayed
-follow (Agrees size) at tags later = later
-follow Differs at tags later = stopped tags (DiffersAt at)
-follow Cut at tags later = stopped tags (CutAt at)
-
--- The run from a place on, with so many tags counted. A record has bytes, so that the turns do not run out when they
--- start as the length.
-unfoldable pub replayFrom : (turns : ℕ) → List ℕ → (at tags : ℕ) → Replayed
-replayFrom zero s at tags = stopped tags All
-replayFrom (suc turns) s at tags =
-    pick (ltb at (length s))
-    (follow (recordOf (drop at s)) at tags (replayFrom turns s (at + sizeOf (recordOf (drop at s))) (tags + 1)))
-    (stopped tags All)
-
 unfoldable pub replayOf : List ℕ → Replayed
-replayOf s = replayFrom (length s) s 0 0
+replayOf s = replayEach recordOf s

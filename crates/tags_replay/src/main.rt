@@ -9,62 +9,18 @@
 use attributes::Place;
 use batch::Batch;
 use keys::CAPACITY;
+use replay::Replayed;
+use replay::Step;
 ghost use mathlib.Core.Path.{_≡_};
-ghost use Prim.Native.Nat.{_+_, _*_, _≤_, _<_};
+ghost use Prim.Native.Nat.{_*_, _≤_};
 ghost use lib.ListN.{length};
-ghost use Rattle.scan.specs.Bytes.{sameBytes};
 ghost use Rattle.attributes.specs.Next.{opened};
-ghost use Rattle.tags_replay.specs.Replay.{twoAt, twosOf, agreesWith, Lent, openedOn, recordOf, replayOf};
-
-// What stands at the front of some bytes.
-enum Step {
-    // a whole record of that many bytes, whose answers are ours
-    Agrees(usize),
-    // one whose answers are not
-    Differs,
-    // too few bytes for one
-    Cut,
-}
-
-// Where a replay stops.
-enum End {
-    All,
-    Differs(usize),
-    Cut(usize),
-}
-
-struct Replayed {
-    tags: usize,
-    end: End,
-}
+ghost use Rattle.tags_replay.specs.Replay.{agreesWith, Lent, openedOn, recordOf, replayOf};
 
 fn wide(b: u8) -> usize
     ensures { λ r. ⌜ r ≡ b ⌝ }
 {
     b as usize
-}
-
-// The number of two bytes at a place.
-fn two_at(s: &[u8], at: usize) -> usize
-    requires { ⌜ at + 1 < length (now s) ⌝ }
-    ensures { λ r. ⌜ r ≡ twoAt (now (s .entry)) at ⌝ }
-{
-    wide(s[at]) + 256 * wide(s[at + 1])
-}
-
-// Whether numbers are those that are recorded at the front of some bytes.
-fn same_numbers(numbers: &[usize], recorded: &[u8]) -> bool
-    requires { ⌜ 2 * length (now numbers) ≤ length (now recorded) ⌝ }
-    ensures { λ r. ⌜ r ≡ sameBytes (now (numbers .entry)) (twosOf (length (now (numbers .entry))) (now (recorded .entry))) ⌝ }
-{
-    let mut i = 0;
-    while i < numbers.len() {
-        if numbers[i] != two_at(recorded, 2 * i) {
-            return false;
-        }
-        i += 1;
-    }
-    true
 }
 
 // Whether the recorded answers are those of a fresh iterator on lent tables, read in batches of as many as `out` holds.
@@ -95,7 +51,7 @@ fn agrees_on<'a>(
         }
         let from = 10 * total;
         let to = 5 * n;
-        if !same_numbers(&out[..to], &recorded[from..]) {
+        if !replay::same_numbers(&out[..to], &recorded[from..]) {
             return false;
         }
         if n < out.len() / 5 {
@@ -141,13 +97,13 @@ fn record_of(rest: &[u8], out: &mut [usize]) -> Step
     if rest.len() < 8 {
         return Step::Cut;
     }
-    let n = two_at(rest, 0);
+    let n = replay::number_at(rest, 0);
     if rest.len() - 8 < n {
         return Step::Cut;
     }
     let to = 2 + n;
     let tail = &rest[to..];
-    let answers = two_at(tail, 4);
+    let answers = replay::number_at(tail, 4);
     if (tail.len() - 6) / 10 < answers {
         return Step::Cut;
     }
@@ -157,12 +113,12 @@ fn record_of(rest: &[u8], out: &mut [usize]) -> Step
         &rest[2..to],
         html,
         checks,
-        two_at(tail, 2),
+        replay::number_at(tail, 2),
         answers,
         &tail[6..],
         out,
     ) {
-        return Step::Agrees(8 + n + 10 * answers);
+        return Step::Agrees(8 + n + 10 * answers, 0, 0);
     }
     Step::Differs
 }
@@ -172,57 +128,19 @@ fn replay(records: &[u8], out: &mut [usize]) -> Replayed
     requires { ⌜ 5 ≤ length (now out) ⌝ }
     ensures { λ r. ⌜ r ≡ replayOf (now (records .entry)) ⌝ }
 {
-    let mut at = 0;
-    let mut tags = 0;
-    while at < records.len() {
+    let mut run = replay::begun();
+    while run.at < records.len() {
+        let at = run.at;
         let step = record_of(&records[at..], out);
-        match step {
-            Step::Agrees(size) => {
-                at += size;
-                tags += 1;
-            }
-            Step::Differs => return Replayed {
-                tags: tags,
-                end: End::Differs(at),
-            },
-            Step::Cut => return Replayed {
-                tags: tags,
-                end: End::Cut(at),
-            },
-        }
+        run = replay::after(run, step, records.len());
     }
-    Replayed {
-        tags: tags,
-        end: End::All,
-    }
+    run
 }
 
-fn show(replayed: Replayed) {
-    io::write_all(1, b"tags ");
-    io::print_decimal(1, replayed.tags as u64);
-    let end = replayed.end;
-    match end {
-        End::All => {
-            io::write_all(1, b", all as recorded\n");
-        }
-        End::Differs(at) => {
-            io::write_all(1, b" as recorded, and one that is not at byte ");
-            io::print_decimal(1, at as u64);
-            io::write_all(1, b"\n");
-        }
-        End::Cut(at) => {
-            io::write_all(1, b" as recorded, and no whole record at byte ");
-            io::print_decimal(1, at as u64);
-            io::write_all(1, b"\n");
-        }
-    }
-}
-
-// Room for the records. The contract gives the length, which lending the array as a slice needs.
-fn room() -> [u8; 262144]
-    ensures { λ r. ⌜ 262144 ≡ length r ⌝ }
-{
-    [0; 262144]
+fn show(run: Replayed) {
+    replay::say(b"tags ", run.records);
+    let end = run.end;
+    replay::say_end(end, b"one");
 }
 
 fn replay_twice(records: &[u8]) {
@@ -233,11 +151,9 @@ fn replay_twice(records: &[u8]) {
 }
 
 fn main() {
-    let mut buffer = room();
+    let mut buffer = replay::room();
     let n = io::read_full(0, &mut buffer);
-    let mut one = [0u8; 1];
-    if io::read_full(0, &mut one) > 0 {
-        io::write_all(1, b"too long\n");
+    if replay::too_long() {
         return;
     }
     replay_twice(&buffer[..n]);

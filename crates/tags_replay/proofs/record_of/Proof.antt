@@ -10,14 +10,14 @@ use Rattle.tags_replay.proofs.record_of.Tie as tie
 returns : tie.Need-returns
 returns c = too-few (c .before .before .before .args .rest .now) (c .if1 .taken)
 
-two-at-requires : tie.Need-two-at-requires
-two-at-requires c κs = search needs
+number-at-requires : tie.Need-number-at-requires
+number-at-requires c κs = search needs
 
 sub-if2 : tie.Need-sub-if2
 sub-if2 c = search needs
 
 returns-2 : tie.Need-returns-2
-returns-2 c = tag-cut (c .before .before .before .before .before .args .rest .now) (c .before .before .if1 .left) (c .before .two-at .ensures) (c .if2 .taken)
+returns-2 c = tag-cut (c .before .before .before .before .before .args .rest .now) (c .before .before .if1 .left) (c .before .number-at .ensures) (c .if2 .taken)
 
 add-to : tie.Need-add-to
 add-to c = search needs
@@ -31,14 +31,14 @@ part-tail-start c = search needs
 part-tail-end : tie.Need-part-tail-end
 part-tail-end c = search needs
 
-two-at-requires-2 : tie.Need-two-at-requires-2
-two-at-requires-2 c κs = search needs
+number-at-requires-2 : tie.Need-number-at-requires-2
+number-at-requires-2 c κs = search needs
 
 sub-if3 : tie.Need-sub-if3
 sub-if3 c = search needs
 
 returns-3 : tie.Need-returns-3
-returns-3 c = answers-cut (c .before .before .before .before .before .before .before .before .args .rest .now) (c .before .before .before .before .before .if1 .left) (c .before .before .before .before .two-at .ensures) (c .before .before .before .if2 .left) refl (c .before .two-at2 .ensures) (c .if3 .taken)
+returns-3 c = answers-cut (c .before .before .before .before .before .before .before .before .args .rest .now) (c .before .before .before .before .before .if1 .left) (c .before .before .before .before .number-at .ensures) (c .before .before .before .if2 .left) refl (c .before .number-at2 .ensures) (c .if3 .taken)
 
 shared-slice-read-wide : tie.Need-shared-slice-read-wide
 shared-slice-read-wide c = search needs
@@ -61,8 +61,8 @@ part-agrees-start c = search needs
 part-agrees-end : tie.Need-part-agrees-end
 part-agrees-end c = search needs
 
-two-at-requires-3 : tie.Need-two-at-requires-3
-two-at-requires-3 c κs = search needs
+number-at-requires-3 : tie.Need-number-at-requires-3
+number-at-requires-3 c κs = search needs
 
 sub-agrees-2 : tie.Need-sub-agrees-2
 sub-agrees-2 c = search needs
@@ -89,27 +89,27 @@ same-length : tie.Need-same-length
 same-length c = search needs
 
 returns-4 : tie.Need-returns-4
-returns-4 c = whole (c .before .before .before .before .before .before .before .before .before .before .before .before .before .before .before .before .before .before .before .before .args .rest .now) (c .before .before .before .before .before .before .before .before .before .before .before .before .before .before .before .before .before .if1 .left) (c .before .before .before .before .before .before .before .before .before .before .before .before .before .before .before .before .two-at .ensures) (c .before .before .before .before .before .before .before .before .before .before .before .before .before .before .before .if2 .left) refl (c .before .before .before .before .before .before .before .before .before .before .before .before .before .two-at2 .ensures) (c .before .before .before .before .before .before .before .before .before .before .before .before .if3 .left) (ap (λ (x : ℕ). eqb x 1) (c .before .before .before .before .before .before .before .before .before .before .wide .ensures)) (ap (λ (x : ℕ). eqb x 1) (c .before .before .before .before .before .before .before .before .wide2 .ensures)) (c .before .before .before .before .before .before .two-at3 .ensures) refl (sym (c .if4 .taken) ∙ c .before .before .before .agrees .ensures)
+returns-4 c = whole (c .before .before .before .before .before .before .before .before .before .before .before .before .before .before .before .before .before .before .before .before .args .rest .now) (c .before .before .before .before .before .before .before .before .before .before .before .before .before .before .before .before .before .if1 .left) (c .before .before .before .before .before .before .before .before .before .before .before .before .before .before .before .before .number-at .ensures) (c .before .before .before .before .before .before .before .before .before .before .before .before .before .before .before .if2 .left) refl (c .before .before .before .before .before .before .before .before .before .before .before .before .before .number-at2 .ensures) (c .before .before .before .before .before .before .before .before .before .before .before .before .if3 .left) (ap (λ (x : ℕ). eqb x 1) (c .before .before .before .before .before .before .before .before .before .before .wide .ensures)) (ap (λ (x : ℕ). eqb x 1) (c .before .before .before .before .before .before .before .before .wide2 .ensures)) (c .before .before .before .before .before .before .number-at3 .ensures) refl (sym (c .if4 .taken) ∙ c .before .before .before .agrees .ensures)
 
 same-length-2 : tie.Need-same-length-2
 same-length-2 c = search needs
 
 returns-5 : tie.Need-returns-5
-returns-5 c = whole (c .before .before .before .before .before .before .before .before .before .before .before .before .before .before .before .before .before .before .before .before .args .rest .now) (c .before .before .before .before .before .before .before .before .before .before .before .before .before .before .before .before .before .if1 .left) (c .before .before .before .before .before .before .before .before .before .before .before .before .before .before .before .before .two-at .ensures) (c .before .before .before .before .before .before .before .before .before .before .before .before .before .before .before .if2 .left) refl (c .before .before .before .before .before .before .before .before .before .before .before .before .before .two-at2 .ensures) (c .before .before .before .before .before .before .before .before .before .before .before .before .if3 .left) (ap (λ (x : ℕ). eqb x 1) (c .before .before .before .before .before .before .before .before .before .before .wide .ensures)) (ap (λ (x : ℕ). eqb x 1) (c .before .before .before .before .before .before .before .before .wide2 .ensures)) (c .before .before .before .before .before .before .two-at3 .ensures) refl (sym (c .if4 .left) ∙ c .before .before .before .agrees .ensures)
+returns-5 c = whole (c .before .before .before .before .before .before .before .before .before .before .before .before .before .before .before .before .before .before .before .before .args .rest .now) (c .before .before .before .before .before .before .before .before .before .before .before .before .before .before .before .before .before .if1 .left) (c .before .before .before .before .before .before .before .before .before .before .before .before .before .before .before .before .number-at .ensures) (c .before .before .before .before .before .before .before .before .before .before .before .before .before .before .before .if2 .left) refl (c .before .before .before .before .before .before .before .before .before .before .before .before .before .number-at2 .ensures) (c .before .before .before .before .before .before .before .before .before .before .before .before .if3 .left) (ap (λ (x : ℕ). eqb x 1) (c .before .before .before .before .before .before .before .before .before .before .wide .ensures)) (ap (λ (x : ℕ). eqb x 1) (c .before .before .before .before .before .before .before .before .wide2 .ensures)) (c .before .before .before .before .before .before .number-at3 .ensures) refl (sym (c .if4 .left) ∙ c .before .before .before .agrees .ensures)
 
 pub record-of-spec : {M : Type 1} → statement M
 record-of-spec =
     tie.close
     (tie.spec
     returns
-    two-at-requires
+    number-at-requires
     sub-if2
     returns-2
     add-to
     sub-tail
     part-tail-start
     part-tail-end
-    two-at-requires-2
+    number-at-requires-2
     sub-if3
     returns-3
     shared-slice-read-wide
@@ -119,7 +119,7 @@ record-of-spec =
     sub-agrees
     part-agrees-start
     part-agrees-end
-    two-at-requires-3
+    number-at-requires-3
     sub-agrees-2
     part-agrees-start-2
     part-agrees-end-2
