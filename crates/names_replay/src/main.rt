@@ -8,6 +8,7 @@
 // prefix; then where that prefix starts, 0 for none; then whether the part before the colon is `xml`, and `xmlns`, 0
 // where there is no colon. What is counted is `replayOf`, specs/Replay.antt.
 use name::Colon;
+use replay::End;
 use replay::Replayed;
 use replay::Step;
 ghost use mathlib.Core.Path.{_≡_};
@@ -104,16 +105,58 @@ fn replay(records: &[u8]) -> Replayed
     run
 }
 
+// Room for the records. The contract gives the length, which lending the array as a slice needs.
+fn room() -> [u8; 262144]
+    ensures { λ r. ⌜ 262144 ≡ length r ⌝ }
+{
+    [0; 262144]
+}
+
+// A number on standard output, with the words before it.
+fn say(words: &[u8], n: usize) {
+    io::write_all(1, words);
+    io::print_decimal(1, n as u64);
+}
+
+// The end of a line of counts: all agreed, or where the run stopped. `which` says what a record is.
+fn say_end(end: End, which: &[u8]) {
+    match end {
+        End::All => {
+            io::write_all(1, b", all as recorded\n");
+        }
+        End::Differs(at) => {
+            io::write_all(1, b" as recorded, and ");
+            io::write_all(1, which);
+            say(b" that is not at byte ", at);
+            io::write_all(1, b"\n");
+        }
+        End::Cut(at) => {
+            say(b" as recorded, and no whole record at byte ", at);
+            io::write_all(1, b"\n");
+        }
+    }
+}
+
+// Whether standard input goes on behind what was read, which is then said.
+fn too_long() -> bool {
+    let mut one = [0u8; 1];
+    if io::read_full(0, &mut one) > 0 {
+        io::write_all(1, b"too long\n");
+        return true;
+    }
+    false
+}
+
 fn show(run: Replayed) {
-    replay::say(b"names ", run.records);
+    say(b"names ", run.records);
     let end = run.end;
-    replay::say_end(end, b"one");
+    say_end(end, b"one");
 }
 
 fn main() {
-    let mut buffer = replay::room();
+    let mut buffer = room();
     let n = io::read_full(0, &mut buffer);
-    if replay::too_long() {
+    if too_long() {
         return;
     }
     show(replay(&buffer[..n]));

@@ -9,6 +9,7 @@
 // goes from call to call by value, so that each contract is one equation on all of it. What is counted is `replayOf`,
 // specs/Replay.antt.
 use name::Declares;
+use replay::End;
 use replay::Replayed;
 use replay::Step;
 use scope_listing::Listed;
@@ -373,18 +374,60 @@ fn replay(records: &[u8]) -> Replayed
     run
 }
 
+// Room for the records. The contract gives the length, which lending the array as a slice needs.
+fn room() -> [u8; 262144]
+    ensures { λ r. ⌜ 262144 ≡ length r ⌝ }
+{
+    [0; 262144]
+}
+
+// A number on standard output, with the words before it.
+fn say(words: &[u8], n: usize) {
+    io::write_all(1, words);
+    io::print_decimal(1, n as u64);
+}
+
+// The end of a line of counts: all agreed, or where the run stopped. `which` says what a record is.
+fn say_end(end: End, which: &[u8]) {
+    match end {
+        End::All => {
+            io::write_all(1, b", all as recorded\n");
+        }
+        End::Differs(at) => {
+            io::write_all(1, b" as recorded, and ");
+            io::write_all(1, which);
+            say(b" that is not at byte ", at);
+            io::write_all(1, b"\n");
+        }
+        End::Cut(at) => {
+            say(b" as recorded, and no whole record at byte ", at);
+            io::write_all(1, b"\n");
+        }
+    }
+}
+
+// Whether standard input goes on behind what was read, which is then said.
+fn too_long() -> bool {
+    let mut one = [0u8; 1];
+    if io::read_full(0, &mut one) > 0 {
+        io::write_all(1, b"too long\n");
+        return true;
+    }
+    false
+}
+
 fn show(run: Replayed) {
-    replay::say(b"calls ", run.records);
-    replay::say(b", names ", run.names);
-    replay::say(b", bindings ", run.bindings);
+    say(b"calls ", run.records);
+    say(b", names ", run.names);
+    say(b", bindings ", run.bindings);
     let end = run.end;
-    replay::say_end(end, b"a call");
+    say_end(end, b"a call");
 }
 
 fn main() {
-    let mut buffer = replay::room();
+    let mut buffer = room();
     let n = io::read_full(0, &mut buffer);
-    if replay::too_long() {
+    if too_long() {
         return;
     }
     show(replay(&buffer[..n]));
