@@ -8,15 +8,15 @@ use native.Mathlib.Omega.{arith}
 use lib.ListN.{length, take}
 use Rattle.scan.specs.Lists.{over}
 use Rattle.scan.proofs.Lists.{over-length}
-use Rattle.attributes.specs.declared.Place.{Place}
-use Rattle.attributes.specs.declared.Place.the-variants.{Next}
-use Rattle.attributes.specs.declared.IterState.{IterState}
-use Rattle.attributes.specs.Next.{lentState, noKeys, opened}
-use Rattle.attributes.specs.Run.{runOf}
-use Rattle.attributes.proofs.Good.{opened-sized}
-use Rattle.batch.specs.declared.Batch.the-variants.{Read, WrongTables}
-use Rattle.batch.specs.declared.Why.{Why}
-use Rattle.batch.specs.Batch.{roomOf, batched, batchOf, leftOf}
+use Rattle.tag_step.specs.declared.Place.{Place}
+use Rattle.tag_step.specs.declared.Place.the-variants.{Next}
+use Rattle.tag_step.specs.declared.IterState.{IterState}
+use Rattle.tag_step.specs.Next.{lentState, noKeys, opened}
+use Rattle.tag_step.specs.Run.{runOf}
+use Rattle.tag_step.proofs.Good.{opened-sized}
+use Rattle.tag_batch.specs.declared.Batch.the-variants.{Read, WrongTables}
+use Rattle.tag_batch.specs.declared.Why.{Why}
+use Rattle.tag_batch.specs.Batch.{roomOf, batched, batchOf, leftOf}
 use Rattle.lines.specs.Lines.{linesOf}
 use Rattle.lines.specs.declared.Paged.{Paged}
 use Rattle.lines.specs.Page.{pageLeft, linesBy, pageOf}

@@ -4,9 +4,9 @@ use mathlib.Core.Path.{_≡_, ap, _∙_}
 use mathlib.Core.List.{List}
 use native.Mathlib.Omega.{arith}
 use lib.ListN.{length, length-append}
-use Rattle.attributes.specs.declared.IterState.{IterState}
-use Rattle.attributes.specs.Run.{runOf}
-use Rattle.batch.specs.Batch.{roomOf}
+use Rattle.tag_step.specs.declared.IterState.{IterState}
+use Rattle.tag_step.specs.Run.{runOf}
+use Rattle.tag_batch.specs.Batch.{roomOf}
 use Rattle.lines.proofs.Batches.{Stand, run-most, run-bound}
 
 pub room : (out first : List ℕ) → length out ≡ length first → roomOf first ≡ 256 → roomOf out ≡ 256

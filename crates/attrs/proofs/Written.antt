@@ -11,15 +11,15 @@ use lib.ListN.{length, take, drop, length-append}
 use lib.Seq.{take-at, take-append-seam, drop-append-seam}
 use Rattle.scan.specs.Bytes.{part, bytesFrom, bytes}
 use Rattle.scan.specs.Lists.{over}
-use Rattle.attributes.specs.declared.Answer.{Answer}
-use Rattle.attributes.specs.declared.IterState.{IterState}
-use Rattle.attributes.specs.Next.{opened}
-use Rattle.attributes.specs.Numbers.{numbersOf}
-use Rattle.attributes.specs.Run.{runOf, answersOf}
-use Rattle.attributes.proofs.Run.{run-whole}
-use Rattle.attributes.proofs.Good.{opened-sized}
-use Rattle.batch.specs.Batch.{fiveOf, leftOf}
-use Rattle.batch.proofs.Turns.{five-length}
+use Rattle.tag_step.specs.declared.Answer.{Answer}
+use Rattle.tag_step.specs.declared.IterState.{IterState}
+use Rattle.tag_step.specs.Next.{opened}
+use Rattle.tag_step.specs.Numbers.{numbersOf}
+use Rattle.tag_step.specs.Run.{runOf, answersOf}
+use Rattle.tag_step.proofs.Run.{run-whole}
+use Rattle.tag_step.proofs.Good.{opened-sized}
+use Rattle.tag_batch.specs.Batch.{fiveOf, leftOf}
+use Rattle.tag_batch.proofs.Turns.{five-length}
 use Rattle.lines.specs.Lines.{decimalOf, lineOf, linesOf}
 use Rattle.lines.proofs.Text.{decimal-length, line-length}
 use Rattle.lines.proofs.Pages.{own-numbers}

@@ -4,13 +4,13 @@ use mathlib.Core.Bool.{true, false}
 use mathlib.Core.List.{List}
 use Prim.Native.Nat.{ℕ}
 use lib.ListN.{length}
-use Rattle.keys.specs.Keys.{capacity}
-use Rattle.attributes.specs.declared.Place.the-variants.{Next}
-use Rattle.attributes.specs.declared.Answer.{Answer}
-use Rattle.attributes.specs.declared.IterState.{IterState}
-use Rattle.attributes.specs.Next.{opened, lentState}
-use Rattle.attributes.specs.Run.{answersOf}
-use Rattle.batch.specs.Batch.{roomOf}
+use Rattle.tag_keys.specs.Keys.{capacity}
+use Rattle.tag_step.specs.declared.Place.the-variants.{Next}
+use Rattle.tag_step.specs.declared.Answer.{Answer}
+use Rattle.tag_step.specs.declared.IterState.{IterState}
+use Rattle.tag_step.specs.Next.{opened, lentState}
+use Rattle.tag_step.specs.Run.{answersOf}
+use Rattle.tag_batch.specs.Batch.{roomOf}
 
 -- the tables of an iterator, and an output with room for 256 answers
 pub record Lent (s e numbers : List ℕ) : Type 0 where

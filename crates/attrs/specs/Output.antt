@@ -5,7 +5,7 @@ use mathlib.Core.Path.{_≡_}
 use mathlib.Core.List.{List, _++_}
 use lib.ListN.{length, replicate}
 use Rattle.scan.specs.Bytes.{part, bytes}
-use Rattle.keys.specs.Keys.{capacity}
+use Rattle.tag_keys.specs.Keys.{capacity}
 use Rattle.lines.specs.Lines.{decimalOf, linesOf}
 use Rattle.attrs.specs.Count.{Lent, tagAnswers}
 

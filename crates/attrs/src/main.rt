@@ -6,13 +6,13 @@
 //
 // At most 65,536 bytes are read; all of them are the tag, a line end too. The count comes first, so the tag is read twice,
 // 256 answers at a time: once to count them, once to show them.
-use attributes::Place;
-use batch::Batch;
-use keys::CAPACITY;
+use tag_batch::Batch;
+use tag_keys::CAPACITY;
+use tag_step::Place;
 ghost use mathlib.Core.Path.{_≡_};
 ghost use Prim.Native.Nat.{_+_, _≤_};
 ghost use lib.ListN.{length};
-ghost use Rattle.attributes.specs.Run.{answersOf};
+ghost use Rattle.tag_step.specs.Run.{answersOf};
 ghost use Rattle.attrs.specs.Count.{Lent, openedOn, tagAnswers};
 ghost use Rattle.attrs.specs.Output.{countLine, outputOf, ComesNext, ToCount, Counted, ToShow};
 
@@ -37,7 +37,7 @@ fn count_on<'a>(
     let mut recorded = 0;
     let mut total = 0;
     loop {
-        let left = batch::read_batch(tag, starts, ends, false, true, recorded, place, numbers);
+        let left = tag_batch::read_batch(tag, starts, ends, false, true, recorded, place, numbers);
         let Batch::Read(n, next, count, _) = left else {
             return total;
         };

@@ -4,13 +4,13 @@ use mathlib.Core.Path.{_≡_, ap, _∙_}
 use mathlib.Core.Bool.{Bool}
 use mathlib.Core.List.{List}
 use lib.ListN.{length, getD}
-use Rattle.attributes.specs.declared.Place.{Place}
+use Rattle.tag_step.specs.declared.Place.{Place}
 use Rattle.scope_table.specs.declared.Head.{Head}
 use Rattle.scope_nil.specs.declared.HasNil.{HasNil}
 use Rattle.scope_nil.specs.declared.Left.{Left}
 use Rattle.scope_nil.specs.declared.Standing.{Standing}
 use Rattle.scope_nil.specs.Nil.{standsAt, leftBy, hasNilIn}
-use Rattle.cursor.specs.Cursor.{placeFrom, settledOf, heldIn}
+use Rattle.export_cursor.specs.Cursor.{placeFrom, settledOf, heldIn}
 use Rattle.export_memory.specs.Boundary.{headIn}
 use Rattle.export_nil.specs.Search.{nilNumber, found, foundOf, hasNilBy}
 

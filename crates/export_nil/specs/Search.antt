@@ -3,13 +3,13 @@ use Prim.Native.Nat.{ℕ, _+_}
 use mathlib.Core.Bool.{Bool}
 use mathlib.Core.List.{List}
 use lib.ListN.{length, getD}
-use Rattle.attributes.specs.declared.Place.{Place}
-use Rattle.parts.specs.declared.Truth.{Truth}
-use Rattle.parts.specs.declared.Truth.the-variants as Says
+use Rattle.tag_step.specs.declared.Place.{Place}
+use Rattle.tag_parts.specs.declared.Truth.{Truth}
+use Rattle.tag_parts.specs.declared.Truth.the-variants as Says
 use Rattle.scope_nil.specs.declared.Nil.{Nil}
 use Rattle.scope_nil.specs.declared.HasNil.{HasNil}
 use Rattle.scope_nil.specs.Nil.{nilNumbers, hasNilIn}
-use Rattle.cursor.specs.Cursor.{placeFrom, settledOf, heldIn}
+use Rattle.export_cursor.specs.Cursor.{placeFrom, settledOf, heldIn}
 use Rattle.export_memory.specs.Boundary.{headIn}
 
 -- What a value says: 0 a no, 1 a yes, 2 neither.

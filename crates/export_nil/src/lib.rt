@@ -1,11 +1,11 @@
 // What the static library exports of what stands on both the iterator and the resolver: `has_nil`; and what one value says.
 // Each function hands what it is lent on to the crate that has the rule, and answers by a number; none asks anything of
 // its caller.
-use parts::Truth;
 use scope_nil::Nil;
 use scope_nil::Standing;
+use tag_parts::Truth;
 ghost use mathlib.Core.Path.{_≡_};
-ghost use Rattle.parts.specs.Parts.{truthOf};
+ghost use Rattle.tag_parts.specs.Parts.{truthOf};
 ghost use Rattle.export_nil.specs.Search.{truthNumber, nilNumber, found, hasNilBy};
 
 // The number of what a value says.
@@ -19,12 +19,12 @@ fn truth_number(truth: Truth) -> usize
     }
 }
 
-// What a value says: `parts::as_bool`. 0 a no, 1 a yes, 2 neither.
+// What a value says: `tag_parts::as_bool`. 0 a no, 1 a yes, 2 neither.
 #[no_mangle]
 pub extern "C" fn mz_as_bool(value: &[u8]) -> usize
     ensures { λ r. ⌜ r ≡ truthNumber (truthOf (now (value .entry))) ⌝ }
 {
-    truth_number(parts::as_bool(value))
+    truth_number(tag_parts::as_bool(value))
 }
 
 // The number of an answer: 0 a no and 1 a yes; a refusal has its own.
@@ -62,7 +62,7 @@ pub extern "C" fn mz_has_nil<'k, 't>(
         (now («key_starts» .entry)) (now («key_ends» .entry)) (now (state .entry)) html checks ⌝ }
 {
     let h = export_memory::head_from(head);
-    let place = cursor::place_from(tag.len(), state[0], state[1]);
+    let place = export_cursor::place_from(tag.len(), state[0], state[1]);
     let at = Standing {
         place: place,
         html: html,
@@ -71,7 +71,7 @@ pub extern "C" fn mz_has_nil<'k, 't>(
     };
     let out = scope_nil::has_nil_in(tag, key_starts, key_ends, at, text, records, h);
     let left = out.place;
-    cursor::settle(state, place, left, out.count);
+    export_cursor::settle(state, place, left, out.count);
     let answer = out.answer;
     nil_number(answer)
 }

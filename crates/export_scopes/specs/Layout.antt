@@ -2,7 +2,7 @@
 use Prim.Native.Nat.{ℕ}
 use mathlib.Core.List.{List, [], _∷_}
 use lib.ListN.{getD}
-use Rattle.keys.specs.Keys.{capacity}
+use Rattle.tag_keys.specs.Keys.{capacity}
 use Rattle.scope_table.specs.Records.{ROW}
 use Rattle.scope_table.specs.Table.{TEXT, RECORDS}
 

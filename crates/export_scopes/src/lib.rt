@@ -21,7 +21,7 @@ use scope_table::NamespaceResult;
 // The numbers that a caller's memory is held against, as `layoutOf` of specs/Layout.antt lists them. The kit has no
 // `size_of`, so the last two are what x86-64 has.
 const LAYOUT: [usize; 11] = [
-    keys::CAPACITY,
+    tag_keys::CAPACITY,
     4,
     5,
     NamespaceResolver::TEXT,

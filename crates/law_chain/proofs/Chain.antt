@@ -19,7 +19,7 @@ use Rattle.name.specs.declared.Colon.the-variants.{At, Nowhere}
 use Rattle.name.specs.declared.Verdict.the-variants.{No}
 use Rattle.name.proofs.Declared.{xml-eq, xmlns-eq, named-of, prefix-of-named}
 use Rattle.name.proofs.Verdicts.{Allowed}
-use Rattle.wellformed.specs.Grammar.{Attribute}
+use Rattle.law_wellformed.specs.Grammar.{Attribute}
 use Rattle.scope_table.specs.Records.{recordAt}
 use Rattle.scope_table.specs.Table.{LIMIT, validOf, freshOf}
 use Rattle.scope_table.specs.declared.NamespaceResolver.{NamespaceResolver}

@@ -11,18 +11,18 @@ use Rattle.scan.specs.First.{stopOr, firstOf, firstTo, firstFrom}
 use Rattle.scan.specs.Bytes.{isSpace, notSpace, endsKey, isByte, part, sameBytes, bytesFrom, bytes}
 use Rattle.scan.specs.Lists.{over}
 use Rattle.scan.proofs.Bytes.{same-refl}
-use Rattle.keys.specs.Keys.{keyGood, keyBad, countGood, tableGood, nameAt, sameKey, oldestOf, earlierOf, checkedBy, checkedOf, writtenBy, countBy}
-use Rattle.attributes.specs.Read.{isAt, isQuote, skipTo, skipOf, recoverOf, keyEq, keyTo, keyFrom, keyAt, quoted, closedOf, quotedTo, quotedOf, unquotedTo, otherOf, valueIn, valueFrom, valueAt}
-use Rattle.attributes.specs.Next.{checkOf, keptBy, placeAt, bareBy, bareTo, bareOf, valuedBy, valuedTo, valuedOf, readKey, readAt, stepFrom, stepOf, placeGood, keysOf, stateGood, noKeys, badReading, leaves, nextOf, opened}
-use Rattle.attributes.specs.Run.{isEnd, consUnless, runOf, answersOf}
-use Rattle.parts.specs.Parts.{spanPart, keyPart, valuePart}
+use Rattle.tag_keys.specs.Keys.{keyGood, keyBad, countGood, tableGood, nameAt, sameKey, oldestOf, earlierOf, checkedBy, checkedOf, writtenBy, countBy}
+use Rattle.tag_step.specs.Read.{isAt, isQuote, skipTo, skipOf, recoverOf, keyEq, keyTo, keyFrom, keyAt, quoted, closedOf, quotedTo, quotedOf, unquotedTo, otherOf, valueIn, valueFrom, valueAt}
+use Rattle.tag_step.specs.Next.{checkOf, keptBy, placeAt, bareBy, bareTo, bareOf, valuedBy, valuedTo, valuedOf, readKey, readAt, stepFrom, stepOf, placeGood, keysOf, stateGood, noKeys, badReading, leaves, nextOf, opened}
+use Rattle.tag_step.specs.Run.{isEnd, consUnless, runOf, answersOf}
+use Rattle.tag_parts.specs.Parts.{spanPart, keyPart, valuePart}
 use Rattle.name.specs.Split.{colonAt, hasColon, colonOf}
 use Rattle.name.specs.Reserved.{xmlPrefix, xmlnsPrefix, xmlUri, xmlnsUri, isXml, isXmlns, isXmlUri, isXmlnsUri}
 use Rattle.name.specs.Bind.{reservedBind}
 use Rattle.name.specs.Declares.{opening, isNamed, declaresOf, declaredPrefix}
 use Rattle.name.specs.Verdict.{isEmpty, isOther, isRefused, verdictNamed, verdictOn, verdictOf, verdictNumber}
 use Rattle.name.specs.declared.Verdict.the-variants.{No}
-use Rattle.wellformed.specs.Grammar.{each, some, isIn, oneOf, nameByte, Quote, double, quoteByte, valueByte, Piece, byte, pieceText, isPiece, valueText, arePieces, IsValue, Attribute, attributeThen, AttributeBy, attributesThen, textOf, AttributesBy, Absent, Distinct}
+use Rattle.law_wellformed.specs.Grammar.{each, some, isIn, oneOf, nameByte, Quote, double, quoteByte, valueByte, Piece, byte, pieceText, isPiece, valueText, arePieces, IsValue, Attribute, attributeThen, AttributeBy, attributesThen, textOf, AttributesBy, Absent, Distinct}
 use Rattle.scope_table.specs.Lists.{allBelow, allZero}
 use Rattle.scope_table.specs.Table.{LIMIT, builtIn, levelBefore, isRecord, opensBuiltIn, isChain, isRising, isWithin, isClear, isTable, validOf, freshOf}
 use Rattle.scope_table.specs.Table as Table

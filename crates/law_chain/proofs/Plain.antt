@@ -8,7 +8,7 @@ use lib.Dec.{eqb}
 use borrow.Author.Tests.{eqb-true}
 use Rattle.scan.specs.First.{pick}
 use Rattle.scan.specs.Bytes.{isSpace, bytes, bytesFrom}
-use Rattle.wellformed.specs.Grammar.{each, isIn, oneOf, Piece, byte, entity, decimal, hex, pieceText, valueText}
+use Rattle.law_wellformed.specs.Grammar.{each, isIn, oneOf, Piece, byte, entity, decimal, hex, pieceText, valueText}
 use Rattle.scope_table.proofs.Lists.{and-left, and-right}
 use Rattle.law_chain.specs.Plain.{isPlain, meaningOf}
 

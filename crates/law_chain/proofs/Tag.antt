@@ -21,15 +21,15 @@ use Rattle.name.specs.declared.Declares.the-variants.{Nothing, Default, Named}
 use Rattle.name.specs.declared.Verdict.the-variants.{No}
 use Rattle.name.proofs.Declared.{xml-eq, xml-uri-eq, default-exactly, named-exactly, nothing-exactly}
 use Rattle.name.proofs.Verdicts.{Allowed, yes-means, named-verdict, bind-own, bind-fine}
-use Rattle.attributes.specs.declared.Span.{Span}
-use Rattle.attributes.specs.declared.Answer.{Answer}
-use Rattle.attributes.specs.Read.{span}
-use Rattle.parts.specs.Parts.{keyPart, valuePart}
-use Rattle.wellformed.specs.Grammar.{Quote, double, single, Attribute, textOf, Absent, Distinct}
-use Rattle.wellformed.specs.Expected.{nameStart, nameEnd, valueStart, valueEnd, next, inQuotes, attributesOf}
-use Rattle.wellformed.specs.Expected as Due
-use Rattle.wellformed.proofs.Values.{body-lacks}
-use Rattle.wellformed.proofs.WellFormed.{unchecked-reads, due-parts}
+use Rattle.tag_step.specs.declared.Span.{Span}
+use Rattle.tag_step.specs.declared.Answer.{Answer}
+use Rattle.tag_step.specs.Read.{span}
+use Rattle.tag_parts.specs.Parts.{keyPart, valuePart}
+use Rattle.law_wellformed.specs.Grammar.{Quote, double, single, Attribute, textOf, Absent, Distinct}
+use Rattle.law_wellformed.specs.Expected.{nameStart, nameEnd, valueStart, valueEnd, next, inQuotes, attributesOf}
+use Rattle.law_wellformed.specs.Expected as Due
+use Rattle.law_wellformed.proofs.Values.{body-lacks}
+use Rattle.law_wellformed.proofs.WellFormed.{unchecked-reads, due-parts}
 use Rattle.scope_table.specs.Table.{DEEPEST, validOf}
 use Rattle.scope_table.specs.Answer.{isDone}
 use Rattle.scope_table.specs.declared.NamespaceResolver.{NamespaceResolver}

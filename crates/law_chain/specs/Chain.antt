@@ -13,7 +13,7 @@ use Rattle.name.specs.Verdict.{isEmpty, verdictOf}
 use Rattle.name.specs.declared.Colon.{Colon}
 use Rattle.name.specs.declared.Colon.the-variants.{At, Nowhere}
 use Rattle.name.specs.declared.Verdict.the-variants.{No}
-use Rattle.wellformed.specs.Grammar.{Attribute, Body, textOf, WellFormed, Distinct}
+use Rattle.law_wellformed.specs.Grammar.{Attribute, Body, textOf, WellFormed, Distinct}
 use Rattle.scope_table.specs.Table.{freshOf}
 use Rattle.scope_table.specs.Answer.{changed}
 use Rattle.scope_table.specs.declared.Changed.{Changed}

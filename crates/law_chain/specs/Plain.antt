@@ -5,7 +5,7 @@ use mathlib.Core.Bool.{Bool, not}
 use mathlib.Core.List.{List, [], _∷_, _++_}
 use Rattle.scan.specs.First.{pick}
 use Rattle.scan.specs.Bytes.{isSpace}
-use Rattle.wellformed.specs.Grammar.{each, oneOf, Piece, byte, entity, decimal, hex}
+use Rattle.law_wellformed.specs.Grammar.{each, oneOf, Piece, byte, entity, decimal, hex}
 
 -- without `&`, tab or line end
 unfoldable pub isPlain : List ℕ → Bool

@@ -10,7 +10,7 @@ use contract.Monad.{Fun}
 use Rattle.law_one_answer.specs.Settled.{Settled}
 use Rattle.lines.specs.declared.Paged.{Paged}
 use Rattle.lines.specs.Page.{PageLeft}
-use Rattle.mezzulidda.specs.Reading.{Reading as Batch-reading}
+use Rattle.export_tags.specs.Reading.{Reading as Batch-reading}
 use Rattle.export_memory.specs.Boundary.{Crossed, Asked}
 use Rattle.export_nil.specs.Search.{Found}
 use Rattle.export_names.specs.Names.{Names}
@@ -26,12 +26,12 @@ use Rattle.replay.proofs.after as replay·after
 use Rattle.lines.proofs.put_lines as lines·put-lines
 use Rattle.lines.proofs.answers as lines·answers
 use Rattle.lines.proofs.page as lines·page
-use Rattle.mezzulidda.proofs.mz_split as mezzulidda·mz-split
-use Rattle.mezzulidda.proofs.mz_declares as mezzulidda·mz-declares
-use Rattle.mezzulidda.proofs.mz_is_xml as mezzulidda·mz-is-xml
-use Rattle.mezzulidda.proofs.mz_is_xmlns as mezzulidda·mz-is-xmlns
-use Rattle.mezzulidda.proofs.mz_verdict as mezzulidda·mz-verdict
-use Rattle.mezzulidda.proofs.mz_read_batch as mezzulidda·mz-read-batch
+use Rattle.export_tags.proofs.mz_split as export-tags·mz-split
+use Rattle.export_tags.proofs.mz_declares as export-tags·mz-declares
+use Rattle.export_tags.proofs.mz_is_xml as export-tags·mz-is-xml
+use Rattle.export_tags.proofs.mz_is_xmlns as export-tags·mz-is-xmlns
+use Rattle.export_tags.proofs.mz_verdict as export-tags·mz-verdict
+use Rattle.export_tags.proofs.mz_read_batch as export-tags·mz-read-batch
 use Rattle.export_memory.proofs.head_from as export-memory·head-from
 use Rattle.export_memory.proofs.tell as export-memory·tell
 use Rattle.export_memory.proofs.left_head as export-memory·left-head
@@ -87,23 +87,23 @@ module _ {M : Type 1} (𝓤 : URA M) (H : Heap 𝓤) (A : Atoms 𝓤) (mem : Mem
   pub lines-page : Settled 𝓤 lines·page.ended (lines·page.clauses 𝓤 H A mem run)
   lines-page κs a g y z = read-off 𝓤 (λ (x : PageLeft). (paged x, (tt, (x .batch .starts, (x .batch .ends, (tt, (tt, (tt, (tt, (x .batch .out, (x .text, tt)))))))))))
 
-  pub mezzulidda-mz-split : Settled 𝓤 mezzulidda·mz-split.ended (mezzulidda·mz-split.clauses 𝓤 H A mem run)
-  mezzulidda-mz-split κs a g y z = alone 𝓤 _ y z refl
+  pub export-tags-mz-split : Settled 𝓤 export-tags·mz-split.ended (export-tags·mz-split.clauses 𝓤 H A mem run)
+  export-tags-mz-split κs a g y z = alone 𝓤 _ y z refl
 
-  pub mezzulidda-mz-declares : Settled 𝓤 mezzulidda·mz-declares.ended (mezzulidda·mz-declares.clauses 𝓤 H A mem run)
-  mezzulidda-mz-declares κs a g y z = alone 𝓤 _ y z refl
+  pub export-tags-mz-declares : Settled 𝓤 export-tags·mz-declares.ended (export-tags·mz-declares.clauses 𝓤 H A mem run)
+  export-tags-mz-declares κs a g y z = alone 𝓤 _ y z refl
 
-  pub mezzulidda-mz-is-xml : Settled 𝓤 mezzulidda·mz-is-xml.ended (mezzulidda·mz-is-xml.clauses 𝓤 H A mem run)
-  mezzulidda-mz-is-xml κs a g y z = alone 𝓤 _ y z refl
+  pub export-tags-mz-is-xml : Settled 𝓤 export-tags·mz-is-xml.ended (export-tags·mz-is-xml.clauses 𝓤 H A mem run)
+  export-tags-mz-is-xml κs a g y z = alone 𝓤 _ y z refl
 
-  pub mezzulidda-mz-is-xmlns : Settled 𝓤 mezzulidda·mz-is-xmlns.ended (mezzulidda·mz-is-xmlns.clauses 𝓤 H A mem run)
-  mezzulidda-mz-is-xmlns κs a g y z = alone 𝓤 _ y z refl
+  pub export-tags-mz-is-xmlns : Settled 𝓤 export-tags·mz-is-xmlns.ended (export-tags·mz-is-xmlns.clauses 𝓤 H A mem run)
+  export-tags-mz-is-xmlns κs a g y z = alone 𝓤 _ y z refl
 
-  pub mezzulidda-mz-verdict : Settled 𝓤 mezzulidda·mz-verdict.ended (mezzulidda·mz-verdict.clauses 𝓤 H A mem run)
-  mezzulidda-mz-verdict κs a g y z = alone 𝓤 _ y z refl
+  pub export-tags-mz-verdict : Settled 𝓤 export-tags·mz-verdict.ended (export-tags·mz-verdict.clauses 𝓤 H A mem run)
+  export-tags-mz-verdict κs a g y z = alone 𝓤 _ y z refl
 
-  pub mezzulidda-mz-read-batch : Settled 𝓤 mezzulidda·mz-read-batch.ended (mezzulidda·mz-read-batch.clauses 𝓤 H A mem run)
-  mezzulidda-mz-read-batch κs a g y z = read-off 𝓤 (λ (x : Batch-reading). (x .answers, (tt, (x .starts, (x .ends, (x .state, (tt, (tt, (x .out, tt)))))))))
+  pub export-tags-mz-read-batch : Settled 𝓤 export-tags·mz-read-batch.ended (export-tags·mz-read-batch.clauses 𝓤 H A mem run)
+  export-tags-mz-read-batch κs a g y z = read-off 𝓤 (λ (x : Batch-reading). (x .answers, (tt, (x .starts, (x .ends, (x .state, (tt, (tt, (x .out, tt)))))))))
 
   pub export-memory-head-from : Settled 𝓤 export-memory·head-from.ended (export-memory·head-from.clauses 𝓤 H A mem run)
   export-memory-head-from κs a g y z = alone 𝓤 _ y z refl

@@ -67,7 +67,7 @@ use Rattle.scope_listing.proofs.bindings_of as scope-listing·bindings-of
 use Rattle.scope_nil.proofs.has_nil_in as scope-nil·has-nil-in
 use Rattle.scope_nil.proofs.has_nil as scope-nil·has-nil
 use Rattle.scope_in_place.proofs.set_level as scope-in-place·set-level
-use Rattle.scope_nil_held.proofs.has_nil as scope-nil-held·has-nil
+use Rattle.scope_nil_carried.proofs.has_nil as scope-nil-tag-carried·has-nil
 use Rattle.scope_in_place.proofs.pop as scope-in-place·pop
 use Rattle.scope_in_place.proofs.push as scope-in-place·push
 use Rattle.scope_in_place.proofs.add as scope-in-place·add
@@ -247,5 +247,5 @@ module _ {M : Type 1} (𝓤 : URA M) (H : Heap 𝓤) (A : Atoms 𝓤) (mem : Mem
   pub scope-in-place-set-max-namespace-bindings : Settled 𝓤 scope-in-place·set-max-namespace-bindings.ended (scope-in-place·set-max-namespace-bindings.clauses 𝓤 H A mem run)
   scope-in-place-set-max-namespace-bindings κs a g y z = follows 𝓤 (λ p q. together y z refl (together (y .1) (z .1) (p ∙ sym q) refl))
 
-  pub scope-nil-held-has-nil : Settled 𝓤 scope-nil-held·has-nil.ended (scope-nil-held·has-nil.clauses 𝓤 H A mem run)
+  pub scope-nil-held-has-nil : Settled 𝓤 scope-nil-tag-carried·has-nil.ended (scope-nil-tag-carried·has-nil.clauses 𝓤 H A mem run)
   scope-nil-held-has-nil κs a g y z = follows 𝓤 (λ p q. together y z (p .0 ∙ sym (q .0)) (together (y .1) (z .1) (p .1 ∙ sym (q .1)) refl))

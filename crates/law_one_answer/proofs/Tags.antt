@@ -12,13 +12,13 @@ use mathlib.Core.List.{List}
 use lib.ListN.{getD}
 use denote.Ref.{now}
 use Rattle.law_one_answer.specs.Settled.{Settled, SettledAs}
-use Rattle.attributes.specs.Next.{Reading}
-use Rattle.attributes.specs.Lent.{Taken, Took, Short, taken}
-use Rattle.attributes.specs.declared.Outcome.{Outcome}
-use Rattle.attributes.specs.declared.Stepped.{Stepped}
-use Rattle.attributes.specs.declared.Stepped.the-variants.{Made, LendMore}
-use Rattle.batch.specs.Batch.{Batched}
-use Rattle.batch.specs.declared.Five.{Five}
+use Rattle.tag_step.specs.Next.{Reading}
+use Rattle.tag_step.specs.Lent.{Taken, Took, Short, taken}
+use Rattle.tag_step.specs.declared.Outcome.{Outcome}
+use Rattle.tag_step.specs.declared.Stepped.{Stepped}
+use Rattle.tag_step.specs.declared.Stepped.the-variants.{Made, LendMore}
+use Rattle.tag_batch.specs.Batch.{Batched}
+use Rattle.tag_batch.specs.declared.Five.{Five}
 use Rattle.law_one_answer.proofs.Ends.{follows, together, alone, read-off}
 use Rattle.scan.proofs.is_whitespace as scan·is-whitespace
 use Rattle.scan.proofs.ends_key as scan·ends-key
@@ -47,34 +47,34 @@ use Rattle.name.proofs.declared_prefix as name·declared-prefix
 use Rattle.name.proofs.check_named as name·check-named
 use Rattle.name.proofs.verdict_named as name·verdict-named
 use Rattle.name.proofs.verdict_of as name·verdict-of
-use Rattle.keys.proofs.keys_good as keys·keys-good
-use Rattle.keys.proofs.holds as keys·holds
-use Rattle.keys.proofs.check_for_duplicates as keys·check-for-duplicates
-use Rattle.keys.proofs.record_key as keys·record-key
-use Rattle.attributes.proofs.good_in as attributes·good-in
-use Rattle.attributes.proofs.state_good as attributes·state-good
-use Rattle.attributes.proofs.step_in as attributes·step-in
-use Rattle.attributes.proofs.step_lent as attributes·step-lent
-use Rattle.attributes.proofs.step_unchecked as attributes·step-unchecked
-use Rattle.attributes.proofs.clear as attributes·clear
-use Rattle.attributes.proofs.next_lent as attributes·next-lent
-use Rattle.attributes.proofs.IterState.new as attributes·IterState·new
-use Rattle.attributes.proofs.IterState.with_checks as attributes·IterState·with-checks
-use Rattle.attributes.proofs.IterState.next as attributes·IterState·next
-use Rattle.parts.proofs.key_part as parts·key-part
-use Rattle.parts.proofs.value_part as parts·value-part
-use Rattle.parts.proofs.as_bool as parts·as-bool
-use Rattle.batch.proofs.Why.number as batch·Why·number
-use Rattle.batch.proofs.numbers as batch·numbers
-use Rattle.batch.proofs.read_batch as batch·read-batch
-use Rattle.held.proofs.new as held·new
-use Rattle.held.proofs.html as held·html
-use Rattle.held.proofs.with_checks as held·with-checks
-use Rattle.held.proofs.next as held·next
-use Rattle.held.proofs.first as held·first
-use Rattle.cursor.proofs.place_from as cursor·place-from
-use Rattle.cursor.proofs.leave as cursor·leave
-use Rattle.cursor.proofs.settle as cursor·settle
+use Rattle.tag_keys.proofs.keys_good as tag-keys·keys-good
+use Rattle.tag_keys.proofs.holds as tag-keys·holds
+use Rattle.tag_keys.proofs.check_for_duplicates as tag-keys·check-for-duplicates
+use Rattle.tag_keys.proofs.record_key as tag-keys·record-key
+use Rattle.tag_step.proofs.good_in as tag-step·good-in
+use Rattle.tag_step.proofs.state_good as tag-step·state-good
+use Rattle.tag_step.proofs.step_in as tag-step·step-in
+use Rattle.tag_step.proofs.step_lent as tag-step·step-lent
+use Rattle.tag_step.proofs.step_unchecked as tag-step·step-unchecked
+use Rattle.tag_step.proofs.clear as tag-step·clear
+use Rattle.tag_step.proofs.next_lent as tag-step·next-lent
+use Rattle.tag_step.proofs.IterState.new as tag-step·IterState·new
+use Rattle.tag_step.proofs.IterState.with_checks as tag-step·IterState·with-checks
+use Rattle.tag_step.proofs.IterState.next as tag-step·IterState·next
+use Rattle.tag_parts.proofs.key_part as tag-parts·key-part
+use Rattle.tag_parts.proofs.value_part as tag-parts·value-part
+use Rattle.tag_parts.proofs.as_bool as tag-parts·as-bool
+use Rattle.tag_batch.proofs.Why.number as tag-batch·Why·number
+use Rattle.tag_batch.proofs.numbers as tag-batch·numbers
+use Rattle.tag_batch.proofs.read_batch as tag-batch·read-batch
+use Rattle.tag_carried.proofs.new as tag-carried·new
+use Rattle.tag_carried.proofs.html as tag-carried·html
+use Rattle.tag_carried.proofs.with_checks as tag-carried·with-checks
+use Rattle.tag_carried.proofs.next as tag-carried·next
+use Rattle.tag_carried.proofs.first as tag-carried·first
+use Rattle.export_cursor.proofs.place_from as export-cursor·place-from
+use Rattle.export_cursor.proofs.leave as export-cursor·leave
+use Rattle.export_cursor.proofs.settle as export-cursor·settle
 
 -- the outcome of a step on lent tables, read off what the contract states
 abbrev outcome : Reading → Outcome
@@ -175,87 +175,87 @@ module _ {M : Type 1} (𝓤 : URA M) (H : Heap 𝓤) (A : Atoms 𝓤) (mem : Mem
   pub name-verdict-of : Settled 𝓤 name·verdict-of.ended (name·verdict-of.clauses 𝓤 H A mem run)
   name-verdict-of κs a g y z = alone 𝓤 _ y z refl
 
-  pub keys-keys-good : Settled 𝓤 keys·keys-good.ended (keys·keys-good.clauses 𝓤 H A mem run)
-  keys-keys-good κs a g y z = alone 𝓤 _ y z refl
+  pub tag-keys-keys-good : Settled 𝓤 tag-keys·keys-good.ended (tag-keys·keys-good.clauses 𝓤 H A mem run)
+  tag-keys-keys-good κs a g y z = alone 𝓤 _ y z refl
 
-  pub keys-holds : Settled 𝓤 keys·holds.ended (keys·holds.clauses 𝓤 H A mem run)
-  keys-holds κs a g y z = alone 𝓤 _ y z refl
+  pub tag-keys-holds : Settled 𝓤 tag-keys·holds.ended (tag-keys·holds.clauses 𝓤 H A mem run)
+  tag-keys-holds κs a g y z = alone 𝓤 _ y z refl
 
-  pub keys-check-for-duplicates : Settled 𝓤 keys·check-for-duplicates.ended (keys·check-for-duplicates.clauses 𝓤 H A mem run)
-  keys-check-for-duplicates κs a g y z = alone 𝓤 _ y z refl
+  pub tag-keys-check-for-duplicates : Settled 𝓤 tag-keys·check-for-duplicates.ended (tag-keys·check-for-duplicates.clauses 𝓤 H A mem run)
+  tag-keys-check-for-duplicates κs a g y z = alone 𝓤 _ y z refl
 
-  pub keys-record-key : Settled 𝓤 keys·record-key.ended (keys·record-key.clauses 𝓤 H A mem run)
-  keys-record-key κs a g y z = follows 𝓤 (λ p q. together y z refl (together (y .1) (z .1) (p .0 ∙ sym (q .0)) (together (y .1 .1) (z .1 .1) (p .1 ∙ sym (q .1)) refl)))
+  pub tag-keys-record-key : Settled 𝓤 tag-keys·record-key.ended (tag-keys·record-key.clauses 𝓤 H A mem run)
+  tag-keys-record-key κs a g y z = follows 𝓤 (λ p q. together y z refl (together (y .1) (z .1) (p .0 ∙ sym (q .0)) (together (y .1 .1) (z .1 .1) (p .1 ∙ sym (q .1)) refl)))
 
-  pub attributes-good-in : Settled 𝓤 attributes·good-in.ended (attributes·good-in.clauses 𝓤 H A mem run)
-  attributes-good-in κs a g y z = alone 𝓤 _ y z refl
+  pub tag-step-good-in : Settled 𝓤 tag-step·good-in.ended (tag-step·good-in.clauses 𝓤 H A mem run)
+  tag-step-good-in κs a g y z = alone 𝓤 _ y z refl
 
-  pub attributes-state-good : Settled 𝓤 attributes·state-good.ended (attributes·state-good.clauses 𝓤 H A mem run)
-  attributes-state-good κs a g y z = alone 𝓤 _ y z refl
+  pub tag-step-state-good : Settled 𝓤 tag-step·state-good.ended (tag-step·state-good.clauses 𝓤 H A mem run)
+  tag-step-state-good κs a g y z = alone 𝓤 _ y z refl
 
-  pub attributes-step-in : Settled 𝓤 attributes·step-in.ended (attributes·step-in.clauses 𝓤 H A mem run)
-  attributes-step-in κs a g y z = follows 𝓤 (λ p q. ap (λ (x : Stepped × List ℕ × List ℕ). (x .0, (tt, (x .1, (x .2, (tt, (tt, (tt, (tt, tt)))))))))
+  pub tag-step-step-in : Settled 𝓤 tag-step·step-in.ended (tag-step·step-in.clauses 𝓤 H A mem run)
+  tag-step-step-in κs a g y z = follows 𝓤 (λ p q. ap (λ (x : Stepped × List ℕ × List ℕ). (x .0, (tt, (x .1, (x .2, (tt, (tt, (tt, (tt, tt)))))))))
       (sym (step-read (y .0) (y .1 .1 .0) (y .1 .1 .1 .0) _) ∙ ap stepRead (p ∙ sym q) ∙ step-read (z .0) (z .1 .1 .0) (z .1 .1 .1 .0) _))
 
-  pub attributes-step-lent : Settled 𝓤 attributes·step-lent.ended (attributes·step-lent.clauses 𝓤 H A mem run)
-  attributes-step-lent κs a g y z = read-off 𝓤 (λ (x : Reading). (outcome x, (tt, (x .keys .starts, (x .keys .ends, (tt, (tt, (tt, (tt, tt)))))))))
+  pub tag-step-step-lent : Settled 𝓤 tag-step·step-lent.ended (tag-step·step-lent.clauses 𝓤 H A mem run)
+  tag-step-step-lent κs a g y z = read-off 𝓤 (λ (x : Reading). (outcome x, (tt, (x .keys .starts, (x .keys .ends, (tt, (tt, (tt, (tt, tt)))))))))
 
-  pub attributes-step-unchecked : Settled 𝓤 attributes·step-unchecked.ended (attributes·step-unchecked.clauses 𝓤 H A mem run)
-  attributes-step-unchecked κs a g y z = alone 𝓤 _ y z refl
+  pub tag-step-step-unchecked : Settled 𝓤 tag-step·step-unchecked.ended (tag-step·step-unchecked.clauses 𝓤 H A mem run)
+  tag-step-step-unchecked κs a g y z = alone 𝓤 _ y z refl
 
-  pub attributes-clear : Settled 𝓤 attributes·clear.ended (attributes·clear.clauses 𝓤 H A mem run)
-  attributes-clear κs a g y z = follows 𝓤 (λ p q. together y z refl (together (y .1) (z .1) (p ∙ sym q) refl))
+  pub tag-step-clear : Settled 𝓤 tag-step·clear.ended (tag-step·clear.clauses 𝓤 H A mem run)
+  tag-step-clear κs a g y z = follows 𝓤 (λ p q. together y z refl (together (y .1) (z .1) (p ∙ sym q) refl))
 
-  pub attributes-next-lent : Settled 𝓤 attributes·next-lent.ended (attributes·next-lent.clauses 𝓤 H A mem run)
-  attributes-next-lent κs a g y z = read-off 𝓤 (λ (x : Reading). (outcome x, (tt, (x .keys .starts, (x .keys .ends, (tt, (tt, (tt, (tt, tt)))))))))
+  pub tag-step-next-lent : Settled 𝓤 tag-step·next-lent.ended (tag-step·next-lent.clauses 𝓤 H A mem run)
+  tag-step-next-lent κs a g y z = read-off 𝓤 (λ (x : Reading). (outcome x, (tt, (x .keys .starts, (x .keys .ends, (tt, (tt, (tt, (tt, tt)))))))))
 
-  pub attributes-IterState-new : Settled 𝓤 attributes·IterState·new.ended (attributes·IterState·new.clauses 𝓤 H A mem run)
-  attributes-IterState-new κs a g y z = alone 𝓤 _ y z refl
+  pub tag-step-IterState-new : Settled 𝓤 tag-step·IterState·new.ended (tag-step·IterState·new.clauses 𝓤 H A mem run)
+  tag-step-IterState-new κs a g y z = alone 𝓤 _ y z refl
 
-  pub attributes-IterState-with-checks : Settled 𝓤 attributes·IterState·with-checks.ended (attributes·IterState·with-checks.clauses 𝓤 H A mem run)
-  attributes-IterState-with-checks κs a g y z = alone 𝓤 _ y z refl
+  pub tag-step-IterState-with-checks : Settled 𝓤 tag-step·IterState·with-checks.ended (tag-step·IterState·with-checks.clauses 𝓤 H A mem run)
+  tag-step-IterState-with-checks κs a g y z = alone 𝓤 _ y z refl
 
-  pub attributes-IterState-next : Settled 𝓤 attributes·IterState·next.ended (attributes·IterState·next.clauses 𝓤 H A mem run)
-  attributes-IterState-next κs a g y z = alone 𝓤 _ y z refl
+  pub tag-step-IterState-next : Settled 𝓤 tag-step·IterState·next.ended (tag-step·IterState·next.clauses 𝓤 H A mem run)
+  tag-step-IterState-next κs a g y z = alone 𝓤 _ y z refl
 
-  pub parts-key-part : SettledAs 𝓤 parts·key-part.ended (List ℕ) (λ κs r. now r) (parts·key-part.clauses 𝓤 H A mem run)
-  parts-key-part κs a g y z = read-off 𝓤 (λ (bytes : List ℕ). (bytes, y .1))
+  pub tag-parts-key-part : SettledAs 𝓤 tag-parts·key-part.ended (List ℕ) (λ κs r. now r) (tag-parts·key-part.clauses 𝓤 H A mem run)
+  tag-parts-key-part κs a g y z = read-off 𝓤 (λ (bytes : List ℕ). (bytes, y .1))
 
-  pub parts-value-part : SettledAs 𝓤 parts·value-part.ended (List ℕ) (λ κs r. now r) (parts·value-part.clauses 𝓤 H A mem run)
-  parts-value-part κs a g y z = read-off 𝓤 (λ (bytes : List ℕ). (bytes, y .1))
+  pub tag-parts-value-part : SettledAs 𝓤 tag-parts·value-part.ended (List ℕ) (λ κs r. now r) (tag-parts·value-part.clauses 𝓤 H A mem run)
+  tag-parts-value-part κs a g y z = read-off 𝓤 (λ (bytes : List ℕ). (bytes, y .1))
 
-  pub parts-as-bool : Settled 𝓤 parts·as-bool.ended (parts·as-bool.clauses 𝓤 H A mem run)
-  parts-as-bool κs a g y z = alone 𝓤 _ y z refl
+  pub tag-parts-as-bool : Settled 𝓤 tag-parts·as-bool.ended (tag-parts·as-bool.clauses 𝓤 H A mem run)
+  tag-parts-as-bool κs a g y z = alone 𝓤 _ y z refl
 
-  pub batch-Why-number : Settled 𝓤 batch·Why·number.ended (batch·Why·number.clauses 𝓤 H A mem run)
-  batch-Why-number κs a g y z = alone 𝓤 _ y z refl
+  pub tag-batch-Why-number : Settled 𝓤 tag-batch·Why·number.ended (tag-batch·Why·number.clauses 𝓤 H A mem run)
+  tag-batch-Why-number κs a g y z = alone 𝓤 _ y z refl
 
-  pub batch-numbers : Settled 𝓤 batch·numbers.ended (batch·numbers.clauses 𝓤 H A mem run)
-  batch-numbers κs a g y z = follows 𝓤 (λ p q. together y z (ap fiveOfList (p ∙ sym q)) refl)
+  pub tag-batch-numbers : Settled 𝓤 tag-batch·numbers.ended (tag-batch·numbers.clauses 𝓤 H A mem run)
+  tag-batch-numbers κs a g y z = follows 𝓤 (λ p q. together y z (ap fiveOfList (p ∙ sym q)) refl)
 
-  pub batch-read-batch : Settled 𝓤 batch·read-batch.ended (batch·read-batch.clauses 𝓤 H A mem run)
-  batch-read-batch κs a g y z = read-off 𝓤 (λ (x : Batched). (x .batch, (tt, (x .starts, (x .ends, (tt, (tt, (tt, (tt, (x .out, tt))))))))))
+  pub tag-batch-read-batch : Settled 𝓤 tag-batch·read-batch.ended (tag-batch·read-batch.clauses 𝓤 H A mem run)
+  tag-batch-read-batch κs a g y z = read-off 𝓤 (λ (x : Batched). (x .batch, (tt, (x .starts, (x .ends, (tt, (tt, (tt, (tt, (x .out, tt))))))))))
 
-  pub held-new : Settled 𝓤 held·new.ended (held·new.clauses 𝓤 H A mem run)
-  held-new κs a g y z = alone 𝓤 _ y z refl
+  pub tag-carried-new : Settled 𝓤 tag-carried·new.ended (tag-carried·new.clauses 𝓤 H A mem run)
+  tag-carried-new κs a g y z = alone 𝓤 _ y z refl
 
-  pub held-html : Settled 𝓤 held·html.ended (held·html.clauses 𝓤 H A mem run)
-  held-html κs a g y z = alone 𝓤 _ y z refl
+  pub tag-carried-html : Settled 𝓤 tag-carried·html.ended (tag-carried·html.clauses 𝓤 H A mem run)
+  tag-carried-html κs a g y z = alone 𝓤 _ y z refl
 
-  pub held-with-checks : Settled 𝓤 held·with-checks.ended (held·with-checks.clauses 𝓤 H A mem run)
-  held-with-checks κs a g y z = alone 𝓤 _ y z refl
+  pub tag-carried-with-checks : Settled 𝓤 tag-carried·with-checks.ended (tag-carried·with-checks.clauses 𝓤 H A mem run)
+  tag-carried-with-checks κs a g y z = alone 𝓤 _ y z refl
 
-  pub held-next : Settled 𝓤 held·next.ended (held·next.clauses 𝓤 H A mem run)
-  held-next κs a g y z = follows 𝓤 (λ p q. together y z (p .0 ∙ sym (q .0)) (together (y .1) (z .1) (p .1 ∙ sym (q .1)) refl))
+  pub tag-carried-next : Settled 𝓤 tag-carried·next.ended (tag-carried·next.clauses 𝓤 H A mem run)
+  tag-carried-next κs a g y z = follows 𝓤 (λ p q. together y z (p .0 ∙ sym (q .0)) (together (y .1) (z .1) (p .1 ∙ sym (q .1)) refl))
 
-  pub held-first : Settled 𝓤 held·first.ended (held·first.clauses 𝓤 H A mem run)
-  held-first κs a g y z = alone 𝓤 _ y z refl
+  pub tag-carried-first : Settled 𝓤 tag-carried·first.ended (tag-carried·first.clauses 𝓤 H A mem run)
+  tag-carried-first κs a g y z = alone 𝓤 _ y z refl
 
-  pub cursor-place-from : Settled 𝓤 cursor·place-from.ended (cursor·place-from.clauses 𝓤 H A mem run)
-  cursor-place-from κs a g y z = alone 𝓤 _ y z refl
+  pub export-cursor-place-from : Settled 𝓤 export-cursor·place-from.ended (export-cursor·place-from.clauses 𝓤 H A mem run)
+  export-cursor-place-from κs a g y z = alone 𝓤 _ y z refl
 
-  pub cursor-leave : Settled 𝓤 cursor·leave.ended (cursor·leave.clauses 𝓤 H A mem run)
-  cursor-leave κs a g y z = follows 𝓤 (λ p q. together y z refl (together (y .1) (z .1) (p ∙ sym q) refl))
+  pub export-cursor-leave : Settled 𝓤 export-cursor·leave.ended (export-cursor·leave.clauses 𝓤 H A mem run)
+  export-cursor-leave κs a g y z = follows 𝓤 (λ p q. together y z refl (together (y .1) (z .1) (p ∙ sym q) refl))
 
-  pub cursor-settle : Settled 𝓤 cursor·settle.ended (cursor·settle.clauses 𝓤 H A mem run)
-  cursor-settle κs a g y z = follows 𝓤 (λ p q. together y z refl (together (y .1) (z .1) (p ∙ sym q) refl))
+  pub export-cursor-settle : Settled 𝓤 export-cursor·settle.ended (export-cursor·settle.clauses 𝓤 H A mem run)
+  export-cursor-settle κs a g y z = follows 𝓤 (λ p q. together y z refl (together (y .1) (z .1) (p ∙ sym q) refl))

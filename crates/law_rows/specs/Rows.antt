@@ -5,11 +5,11 @@ use Prim.Native.String.{String}
 use mathlib.Core.Bool.{Bool, true, false}
 use mathlib.Core.List.{List, [], _∷_, map}
 use Rattle.scan.specs.Bytes.{bytes}
-use Rattle.attributes.specs.declared.Answer.{Answer}
-use Rattle.attributes.specs.declared.Answer.the-variants.{DoubleQ, SingleQ, ExpectedEq, UnquotedValue, Duplicated}
-use Rattle.attributes.specs.Read.{span}
-use Rattle.attributes.specs.Next.{opened}
-use Rattle.attributes.specs.Run.{answersOf}
+use Rattle.tag_step.specs.declared.Answer.{Answer}
+use Rattle.tag_step.specs.declared.Answer.the-variants.{DoubleQ, SingleQ, ExpectedEq, UnquotedValue, Duplicated}
+use Rattle.tag_step.specs.Read.{span}
+use Rattle.tag_step.specs.Next.{opened}
+use Rattle.tag_step.specs.Run.{answersOf}
 use Rattle.scope_table.specs.Table.{freshOf}
 use Rattle.scope_table.specs.Answer.{changeNumbers, changed}
 use Rattle.scope_table.specs.declared.NamespaceResolver.{NamespaceResolver}

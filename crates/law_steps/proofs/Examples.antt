@@ -9,19 +9,19 @@ use native.Mathlib.Omega.{arith}
 use lib.ListN.{getD, replicate, length-replicate, getD-replicate}
 use Rattle.scan.specs.First.{stopOr, firstOf, firstTo, firstFrom}
 use Rattle.scan.specs.Bytes.{isSpace, notSpace, endsKey, isByte, part, sameBytes, bytesFrom, bytes}
-use Rattle.keys.specs.Keys.{capacity, keyGood, keyBad, countGood, tableGood, nameAt, sameKey, oldestOf, earlierOf, checkedBy, checkedOf, writtenBy, countBy}
-use Rattle.attributes.specs.declared.Span.{Span}
-use Rattle.attributes.specs.declared.Place.{Place}
-use Rattle.attributes.specs.declared.Place.the-variants.{Done, Next, SkipValue, SkipEqValue}
-use Rattle.attributes.specs.declared.Start.the-variants.{From}
-use Rattle.attributes.specs.declared.KeyRead.the-variants.{Valued}
-use Rattle.attributes.specs.declared.Answer.{Answer}
-use Rattle.attributes.specs.declared.Answer.the-variants.{End, DoubleQ, SingleQ, Unquoted, Empty, ExpectedEq, ExpectedValue, UnquotedValue, ExpectedQuote, Duplicated, KeyTableFull, BadState}
-use Rattle.attributes.specs.declared.IterState.{IterState}
-use Rattle.attributes.specs.declared.Step.{Step}
-use Rattle.attributes.specs.Read.{span, isAt, isQuote, skipTo, skipOf, recoverOf, keyEq, keyTo, keyFrom, keyAt, quoted, closedOf, quotedTo, quotedOf, unquotedTo, otherOf, valueIn, valueFrom, valueAt}
-use Rattle.attributes.specs.Next.{checkOf, keptBy, placeAt, bareBy, bareTo, bareOf, valuedBy, valuedTo, valuedOf, readKey, readAt, stepFrom, stepOf, placeGood, keysOf, stateGood, noKeys, badReading, leaves, nextOf, opened}
-use Rattle.attributes.proofs.Good.{opened-good}
+use Rattle.tag_keys.specs.Keys.{capacity, keyGood, keyBad, countGood, tableGood, nameAt, sameKey, oldestOf, earlierOf, checkedBy, checkedOf, writtenBy, countBy}
+use Rattle.tag_step.specs.declared.Span.{Span}
+use Rattle.tag_step.specs.declared.Place.{Place}
+use Rattle.tag_step.specs.declared.Place.the-variants.{Done, Next, SkipValue, SkipEqValue}
+use Rattle.tag_step.specs.declared.Start.the-variants.{From}
+use Rattle.tag_step.specs.declared.KeyRead.the-variants.{Valued}
+use Rattle.tag_step.specs.declared.Answer.{Answer}
+use Rattle.tag_step.specs.declared.Answer.the-variants.{End, DoubleQ, SingleQ, Unquoted, Empty, ExpectedEq, ExpectedValue, UnquotedValue, ExpectedQuote, Duplicated, KeyTableFull, BadState}
+use Rattle.tag_step.specs.declared.IterState.{IterState}
+use Rattle.tag_step.specs.declared.Step.{Step}
+use Rattle.tag_step.specs.Read.{span, isAt, isQuote, skipTo, skipOf, recoverOf, keyEq, keyTo, keyFrom, keyAt, quoted, closedOf, quotedTo, quotedOf, unquotedTo, otherOf, valueIn, valueFrom, valueAt}
+use Rattle.tag_step.specs.Next.{checkOf, keptBy, placeAt, bareBy, bareTo, bareOf, valuedBy, valuedTo, valuedOf, readKey, readAt, stepFrom, stepOf, placeGood, keysOf, stateGood, noKeys, badReading, leaves, nextOf, opened}
+use Rattle.tag_step.proofs.Good.{opened-good}
 use Rattle.law_steps.specs.Steps.{FullTables, Broken, outsideKey, SevenExactly, valued, SixExactly, onlySpace, RecordsIts, Left, LeavesExact, EndExactly, EndStays, Forward, StepForward}
 use Rattle.law_steps.proofs.Leaves.{leaves-exact}
 use Rattle.law_steps.proofs.Refusals.{good-whole, six-exactly, seven-exactly}

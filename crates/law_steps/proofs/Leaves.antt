@@ -11,26 +11,26 @@ use borrow.Author.Tests.{ltb-false, not-false}
 use Rattle.scan.specs.First.{firstFrom, pick}
 use Rattle.scan.specs.Bytes.{isSpace, notSpace, endsKey}
 use Rattle.scan.proofs.Laws.{first, picks}
-use Rattle.keys.specs.declared.Earlier.{Earlier}
-use Rattle.keys.specs.declared.Earlier.the-variants.{At, Nothing}
-use Rattle.keys.specs.declared.Checked.{Checked}
-use Rattle.keys.specs.declared.Checked.the-variants.{Fresh, Same, Full}
-use Rattle.keys.specs.Keys.{capacity, checkedBy, checkedOf, writtenBy, countBy}
-use Rattle.attributes.specs.declared.Span.{Span}
-use Rattle.attributes.specs.declared.Place.{Place}
-use Rattle.attributes.specs.declared.Place.the-variants.{Next}
-use Rattle.attributes.specs.declared.Start.{Start}
-use Rattle.attributes.specs.declared.Start.the-variants.{From, Ended}
-use Rattle.attributes.specs.declared.KeyRead.{KeyRead}
-use Rattle.attributes.specs.declared.KeyRead.the-variants.{NoKey, Bare, Valued}
-use Rattle.attributes.specs.declared.Answer.{Answer}
-use Rattle.attributes.specs.declared.Answer.the-variants.{Empty}
-use Rattle.attributes.specs.declared.Found.{Found}
-use Rattle.attributes.specs.declared.IterState.{IterState}
-use Rattle.attributes.specs.Read.{isAt, recoverOf, keyEq, keyTo, keyFrom, keyAt, quoted, closedOf, valueAt}
-use Rattle.attributes.specs.Next.{Keys, Reading, reading, checkOf, keptBy, placeAt, bareBy, bareTo, valuedBy, valuedTo, readAt, stepFrom, stepOf, keysOf, stateGood, noKeys, badReading, leaves, nextOf}
-use Rattle.attributes.proofs.Whole.{starts-in}
-use Rattle.attributes.proofs.Ways.{value-ways, step-ways}
+use Rattle.tag_keys.specs.declared.Earlier.{Earlier}
+use Rattle.tag_keys.specs.declared.Earlier.the-variants.{At, Nothing}
+use Rattle.tag_keys.specs.declared.Checked.{Checked}
+use Rattle.tag_keys.specs.declared.Checked.the-variants.{Fresh, Same, Full}
+use Rattle.tag_keys.specs.Keys.{capacity, checkedBy, checkedOf, writtenBy, countBy}
+use Rattle.tag_step.specs.declared.Span.{Span}
+use Rattle.tag_step.specs.declared.Place.{Place}
+use Rattle.tag_step.specs.declared.Place.the-variants.{Next}
+use Rattle.tag_step.specs.declared.Start.{Start}
+use Rattle.tag_step.specs.declared.Start.the-variants.{From, Ended}
+use Rattle.tag_step.specs.declared.KeyRead.{KeyRead}
+use Rattle.tag_step.specs.declared.KeyRead.the-variants.{NoKey, Bare, Valued}
+use Rattle.tag_step.specs.declared.Answer.{Answer}
+use Rattle.tag_step.specs.declared.Answer.the-variants.{Empty}
+use Rattle.tag_step.specs.declared.Found.{Found}
+use Rattle.tag_step.specs.declared.IterState.{IterState}
+use Rattle.tag_step.specs.Read.{isAt, recoverOf, keyEq, keyTo, keyFrom, keyAt, quoted, closedOf, valueAt}
+use Rattle.tag_step.specs.Next.{Keys, Reading, reading, checkOf, keptBy, placeAt, bareBy, bareTo, valuedBy, valuedTo, readAt, stepFrom, stepOf, keysOf, stateGood, noKeys, badReading, leaves, nextOf}
+use Rattle.tag_step.proofs.Whole.{starts-in}
+use Rattle.tag_step.proofs.Ways.{value-ways, step-ways}
 use Rattle.law_steps.specs.Steps.{ValuedKey, valued, movedWith, onlySpace, nowhere, leftBy, skipsFrom, goesOn, Left, LeavesExact}
 
 -- Where no key is read only whitespace follows.

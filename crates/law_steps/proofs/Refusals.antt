@@ -11,26 +11,26 @@ use borrow.Author.Tests.{ltb-true, ltb-false, leb-true, leb-false, eqb-true, eqb
 use Rattle.scan.specs.First.{firstTo, pick}
 use Rattle.scan.proofs.Laws.{picks, to-first, to-past}
 use Rattle.scan.proofs.Bytes.{both}
-use Rattle.keys.specs.declared.Earlier.{Earlier}
-use Rattle.keys.specs.declared.Earlier.the-variants.{At, Nothing}
-use Rattle.keys.specs.declared.Checked.{Checked}
-use Rattle.keys.specs.declared.Checked.the-variants.{Fresh, Same, Full}
-use Rattle.keys.specs.Keys.{capacity, keyGood, keyBad, tableGood, earlierOf, checkedBy, checkedOf}
-use Rattle.keys.proofs.Laws.{table-in, table-all, earlier-none, earlier-absent, checked-full}
-use Rattle.attributes.specs.declared.Span.{Span}
-use Rattle.attributes.specs.declared.Place.{Place}
-use Rattle.attributes.specs.declared.Place.the-variants.{Done, Next, SkipValue, SkipEqValue}
-use Rattle.attributes.specs.declared.Start.{Start}
-use Rattle.attributes.specs.declared.Start.the-variants.{From, Ended}
-use Rattle.attributes.specs.declared.Answer.{Answer}
-use Rattle.attributes.specs.declared.Answer.the-variants.{End, DoubleQ, SingleQ, Unquoted, Empty, ExpectedEq, ExpectedValue, UnquotedValue, ExpectedQuote, Duplicated, KeyTableFull, BadState}
-use Rattle.attributes.specs.declared.Found.{Found}
-use Rattle.attributes.specs.declared.IterState.{IterState}
-use Rattle.attributes.specs.declared.Step.{Step}
-use Rattle.attributes.specs.Read.{isAt, recoverOf, quoted, closedOf, valueAt}
-use Rattle.attributes.specs.Next.{Reading, checkOf, bareBy, bareTo, bareOf, valuedBy, valuedTo, valuedOf, stepFrom, stepOf, placeGood, keysOf, stateGood, badReading, leaves, nextOf}
-use Rattle.attributes.proofs.Whole.{starts-in, step-bare, step-valued, next-bad, next-steps}
-use Rattle.attributes.proofs.Ways.{value-ways, step-ways}
+use Rattle.tag_keys.specs.declared.Earlier.{Earlier}
+use Rattle.tag_keys.specs.declared.Earlier.the-variants.{At, Nothing}
+use Rattle.tag_keys.specs.declared.Checked.{Checked}
+use Rattle.tag_keys.specs.declared.Checked.the-variants.{Fresh, Same, Full}
+use Rattle.tag_keys.specs.Keys.{capacity, keyGood, keyBad, tableGood, earlierOf, checkedBy, checkedOf}
+use Rattle.tag_keys.proofs.Laws.{table-in, table-all, earlier-none, earlier-absent, checked-full}
+use Rattle.tag_step.specs.declared.Span.{Span}
+use Rattle.tag_step.specs.declared.Place.{Place}
+use Rattle.tag_step.specs.declared.Place.the-variants.{Done, Next, SkipValue, SkipEqValue}
+use Rattle.tag_step.specs.declared.Start.{Start}
+use Rattle.tag_step.specs.declared.Start.the-variants.{From, Ended}
+use Rattle.tag_step.specs.declared.Answer.{Answer}
+use Rattle.tag_step.specs.declared.Answer.the-variants.{End, DoubleQ, SingleQ, Unquoted, Empty, ExpectedEq, ExpectedValue, UnquotedValue, ExpectedQuote, Duplicated, KeyTableFull, BadState}
+use Rattle.tag_step.specs.declared.Found.{Found}
+use Rattle.tag_step.specs.declared.IterState.{IterState}
+use Rattle.tag_step.specs.declared.Step.{Step}
+use Rattle.tag_step.specs.Read.{isAt, recoverOf, quoted, closedOf, valueAt}
+use Rattle.tag_step.specs.Next.{Reading, checkOf, bareBy, bareTo, bareOf, valuedBy, valuedTo, valuedOf, stepFrom, stepOf, placeGood, keysOf, stateGood, badReading, leaves, nextOf}
+use Rattle.tag_step.proofs.Whole.{starts-in, step-bare, step-valued, next-bad, next-steps}
+use Rattle.tag_step.proofs.Ways.{value-ways, step-ways}
 use Rattle.law_steps.specs.Steps.{FullTables, Broken, emptyKey, outsideKey, manyKeys, outsideSkip, outsideSkipEq, noEq, SevenExactly, Due, valued, bare, NoRoom, SixExactly}
 
 -- Refusal 7.

@@ -11,21 +11,21 @@ use Rattle.scan.specs.First.{firstFrom}
 use Rattle.scan.specs.Bytes.{isSpace, notSpace}
 use Rattle.scan.proofs.Laws.{past, skip}
 use Rattle.scan.proofs.Bytes.{both}
-use Rattle.keys.specs.Keys.{tableGood}
-use Rattle.attributes.specs.declared.Place.{Place}
-use Rattle.attributes.specs.declared.Place.the-variants.{Done, Next, SkipValue, SkipEqValue}
-use Rattle.attributes.specs.declared.Start.{Start}
-use Rattle.attributes.specs.declared.Start.the-variants.{From, Ended}
-use Rattle.attributes.specs.declared.KeyRead.the-variants.{NoKey}
-use Rattle.attributes.specs.declared.Answer.{Answer}
-use Rattle.attributes.specs.declared.Answer.the-variants.{End, BadState}
-use Rattle.attributes.specs.declared.IterState.{IterState}
-use Rattle.attributes.specs.declared.Step.{Step}
-use Rattle.attributes.specs.Read.{found, recoverOf, keyAt}
-use Rattle.attributes.specs.Next.{reading, readAt, placeGood, keysOf, stateGood, badReading, leaves, nextOf}
-use Rattle.attributes.proofs.Paths.{key-none}
-use Rattle.attributes.proofs.Whole.{at-in, starts-in, step-ended, step-reads, step-none, next-bad, next-steps}
-use Rattle.attributes.proofs.Progress as progress
+use Rattle.tag_keys.specs.Keys.{tableGood}
+use Rattle.tag_step.specs.declared.Place.{Place}
+use Rattle.tag_step.specs.declared.Place.the-variants.{Done, Next, SkipValue, SkipEqValue}
+use Rattle.tag_step.specs.declared.Start.{Start}
+use Rattle.tag_step.specs.declared.Start.the-variants.{From, Ended}
+use Rattle.tag_step.specs.declared.KeyRead.the-variants.{NoKey}
+use Rattle.tag_step.specs.declared.Answer.{Answer}
+use Rattle.tag_step.specs.declared.Answer.the-variants.{End, BadState}
+use Rattle.tag_step.specs.declared.IterState.{IterState}
+use Rattle.tag_step.specs.declared.Step.{Step}
+use Rattle.tag_step.specs.Read.{found, recoverOf, keyAt}
+use Rattle.tag_step.specs.Next.{reading, readAt, placeGood, keysOf, stateGood, badReading, leaves, nextOf}
+use Rattle.tag_step.proofs.Paths.{key-none}
+use Rattle.tag_step.proofs.Whole.{at-in, starts-in, step-ended, step-reads, step-none, next-bad, next-steps}
+use Rattle.tag_step.proofs.Progress as progress
 use Rattle.law_steps.specs.Steps.{movedTo, Broken, NothingLeft, onlySpace, nowhere, leftBy, EndLeaves, Left, LeavesExact, EndExactly, EndStays, Beyond, Forward, StepForward}
 use Rattle.law_steps.proofs.Leaves.{leaves-exact}
 use Rattle.law_steps.proofs.Refusals.{good-whole, bad-broken}

@@ -8,17 +8,17 @@ use lib.ListN.{length, getD, set, replicate}
 use lib.Dec.{ltb}
 use Rattle.scan.specs.First.{pick}
 use Rattle.scan.specs.Bytes.{isSpace, part}
-use Rattle.keys.specs.Keys.{capacity, nameAt}
-use Rattle.attributes.specs.declared.Span.{Span}
-use Rattle.attributes.specs.declared.Place.{Place}
-use Rattle.attributes.specs.declared.Place.the-variants.{Done, Next, SkipValue, SkipEqValue}
-use Rattle.attributes.specs.declared.Start.the-variants.{From, Ended}
-use Rattle.attributes.specs.declared.KeyRead.the-variants.{Bare, Valued}
-use Rattle.attributes.specs.declared.Answer.{Answer}
-use Rattle.attributes.specs.declared.Answer.the-variants.{End, DoubleQ, SingleQ, Unquoted, Empty, ExpectedEq, ExpectedValue, UnquotedValue, ExpectedQuote, Duplicated, KeyTableFull, BadState}
-use Rattle.attributes.specs.declared.IterState.{IterState}
-use Rattle.attributes.specs.Read.{recoverOf, keyAt}
-use Rattle.attributes.specs.Next.{nextOf}
+use Rattle.tag_keys.specs.Keys.{capacity, nameAt}
+use Rattle.tag_step.specs.declared.Span.{Span}
+use Rattle.tag_step.specs.declared.Place.{Place}
+use Rattle.tag_step.specs.declared.Place.the-variants.{Done, Next, SkipValue, SkipEqValue}
+use Rattle.tag_step.specs.declared.Start.the-variants.{From, Ended}
+use Rattle.tag_step.specs.declared.KeyRead.the-variants.{Bare, Valued}
+use Rattle.tag_step.specs.declared.Answer.{Answer}
+use Rattle.tag_step.specs.declared.Answer.the-variants.{End, DoubleQ, SingleQ, Unquoted, Empty, ExpectedEq, ExpectedValue, UnquotedValue, ExpectedQuote, Duplicated, KeyTableFull, BadState}
+use Rattle.tag_step.specs.declared.IterState.{IterState}
+use Rattle.tag_step.specs.Read.{recoverOf, keyAt}
+use Rattle.tag_step.specs.Next.{nextOf}
 
 -- The tables of the code's states are arrays of as many places as the capacity; a definition over lists has to be told.
 pub record FullTables (st : IterState) : Type 0 where

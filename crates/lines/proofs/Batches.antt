@@ -12,21 +12,21 @@ use borrow.Author.Tests.{leb-true, leb-false}
 use Rattle.scan.specs.First.{pick}
 use Rattle.scan.specs.Lists.{over}
 use Rattle.scan.proofs.Lists.{over-length}
-use Rattle.attributes.specs.declared.Answer.{Answer}
-use Rattle.attributes.specs.declared.Place.{Place}
-use Rattle.attributes.specs.declared.IterState.{IterState}
-use Rattle.attributes.specs.Next.{nextOf, leaves, lentState}
-use Rattle.attributes.specs.Lent.{wholeNext, needsMore, steppedOf}
-use Rattle.attributes.specs.Run.{isEnd, consUnless, runOf, answersOf}
-use Rattle.attributes.proofs.Run.{cons-most, run-whole}
-use Rattle.attributes.proofs.Good.{Sized, next-sized}
-use Rattle.batch.specs.declared.Batch.{Batch}
-use Rattle.batch.specs.declared.Batch.the-variants.{Read, WrongTables}
-use Rattle.batch.specs.declared.Why.{Why}
-use Rattle.batch.specs.declared.Why.the-variants.{AtEnd, LendMore}
-use Rattle.batch.specs.Batch.{fiveOf, fivesOf, leftOf, Ran, ran, ahead, ranOf, tablesLent, roomOf, Batched, batched, shownOf, readOf, batchOf}
-use Rattle.batch.proofs.Turns.{five-length}
-use Rattle.batch.proofs.Full.{full-batch}
+use Rattle.tag_step.specs.declared.Answer.{Answer}
+use Rattle.tag_step.specs.declared.Place.{Place}
+use Rattle.tag_step.specs.declared.IterState.{IterState}
+use Rattle.tag_step.specs.Next.{nextOf, leaves, lentState}
+use Rattle.tag_step.specs.Lent.{wholeNext, needsMore, steppedOf}
+use Rattle.tag_step.specs.Run.{isEnd, consUnless, runOf, answersOf}
+use Rattle.tag_step.proofs.Run.{cons-most, run-whole}
+use Rattle.tag_step.proofs.Good.{Sized, next-sized}
+use Rattle.tag_batch.specs.declared.Batch.{Batch}
+use Rattle.tag_batch.specs.declared.Batch.the-variants.{Read, WrongTables}
+use Rattle.tag_batch.specs.declared.Why.{Why}
+use Rattle.tag_batch.specs.declared.Why.the-variants.{AtEnd, LendMore}
+use Rattle.tag_batch.specs.Batch.{fiveOf, fivesOf, leftOf, Ran, ran, ahead, ranOf, tablesLent, roomOf, Batched, batched, shownOf, readOf, batchOf}
+use Rattle.tag_batch.proofs.Turns.{five-length}
+use Rattle.tag_batch.proofs.Full.{full-batch}
 use Rattle.lines.specs.Page.{answersIn}
 
 -- A run of n answers.

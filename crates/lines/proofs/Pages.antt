@@ -6,19 +6,19 @@ use mathlib.Core.List.{List, [], _∷_, _++_}
 use native.Mathlib.Omega.{arith}
 use lib.ListN.{length, take, drop}
 use lib.Seq.{take-at, drop-at}
-use Rattle.attributes.specs.declared.Answer.{Answer}
-use Rattle.attributes.specs.declared.Answer.the-variants.{End, DoubleQ, SingleQ, Unquoted, Empty, ExpectedEq, ExpectedValue, UnquotedValue, ExpectedQuote, Duplicated, KeyTableFull, BadState}
-use Rattle.attributes.specs.declared.IterState.{IterState}
-use Rattle.attributes.specs.Numbers.{numbersOf}
-use Rattle.attributes.specs.Run.{runOf}
-use Rattle.attributes.proofs.Good.{Sized}
-use Rattle.attributes.specs.declared.Place.{Place}
-use Rattle.attributes.specs.Next.{lentState}
+use Rattle.tag_step.specs.declared.Answer.{Answer}
+use Rattle.tag_step.specs.declared.Answer.the-variants.{End, DoubleQ, SingleQ, Unquoted, Empty, ExpectedEq, ExpectedValue, UnquotedValue, ExpectedQuote, Duplicated, KeyTableFull, BadState}
+use Rattle.tag_step.specs.declared.IterState.{IterState}
+use Rattle.tag_step.specs.Numbers.{numbersOf}
+use Rattle.tag_step.specs.Run.{runOf}
+use Rattle.tag_step.proofs.Good.{Sized}
+use Rattle.tag_step.specs.declared.Place.{Place}
+use Rattle.tag_step.specs.Next.{lentState}
 use Rattle.scan.specs.Lists.{over}
-use Rattle.batch.specs.Batch.{fiveOf, fivesOf, roomOf, Batched, batched, batchOf}
-use Rattle.batch.specs.declared.Batch.{Batch}
-use Rattle.batch.proofs.Full.{full-batch}
-use Rattle.batch.proofs.Turns.{five-length}
+use Rattle.tag_batch.specs.Batch.{fiveOf, fivesOf, roomOf, Batched, batched, batchOf}
+use Rattle.tag_batch.specs.declared.Batch.{Batch}
+use Rattle.tag_batch.proofs.Full.{full-batch}
+use Rattle.tag_batch.proofs.Turns.{five-length}
 use Rattle.lines.specs.Lines.{lineOf, linesOf, valuesOf, ownOf, fiveLines, linesIn}
 use Rattle.lines.specs.Page.{answersIn, PageLeft, pageLeft, linesBy, leftBy, pageOf}
 use Rattle.lines.specs.declared.Paged.{Paged}

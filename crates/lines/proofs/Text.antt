@@ -14,11 +14,11 @@ use Rattle.scan.specs.Lists.{over}
 use Rattle.io.specs.Digits.{digits, glyph, Fewest}
 use Rattle.scan.specs.First.{pick, firstTo}
 use Rattle.scan.proofs.Laws.{IsFirst, to-first, first-only, picks}
-use Rattle.attributes.specs.declared.Answer.{Answer}
-use Rattle.attributes.specs.declared.Answer.the-variants.{End, DoubleQ, SingleQ, Unquoted, Empty, ExpectedEq, ExpectedValue, UnquotedValue, ExpectedQuote, Duplicated, KeyTableFull, BadState}
-use Rattle.attributes.specs.Numbers.{numbersOf}
-use Rattle.batch.specs.Batch.{fiveOf, fivesOf}
-use Rattle.batch.proofs.Turns.{five-length}
+use Rattle.tag_step.specs.declared.Answer.{Answer}
+use Rattle.tag_step.specs.declared.Answer.the-variants.{End, DoubleQ, SingleQ, Unquoted, Empty, ExpectedEq, ExpectedValue, UnquotedValue, ExpectedQuote, Duplicated, KeyTableFull, BadState}
+use Rattle.tag_step.specs.Numbers.{numbersOf}
+use Rattle.tag_batch.specs.Batch.{fiveOf, fivesOf}
+use Rattle.tag_batch.proofs.Turns.{five-length}
 use Rattle.lines.proofs.Parts.{Part, part-first, part-byte, part-next, part-last}
 use Rattle.lines.specs.Lines.{placesOf, decimalOf, spaced, letterOf, shownFrom, lineOf, linesOf, valuesOf, ownOf, fiveLines, linesIn}
 

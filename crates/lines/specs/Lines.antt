@@ -8,8 +8,8 @@ use lib.ListN.{length, take, drop, getD}
 use lib.Dec.{eqb, ltb}
 use Rattle.io.specs.Digits.{digits}
 use Rattle.scan.specs.First.{pick, firstTo}
-use Rattle.attributes.specs.declared.Answer.{Answer}
-use Rattle.attributes.specs.Numbers.{numbersOf}
+use Rattle.tag_step.specs.declared.Answer.{Answer}
+use Rattle.tag_step.specs.Numbers.{numbersOf}
 
 -- how many decimal digits a number has: the fewest that hold it, and at least one; none of 64 bits has more than 20
 unfoldable pub placesOf : ℕ → ℕ

@@ -3,10 +3,10 @@ use Prim.Native.Nat.{ℕ, _*_}
 use mathlib.Core.List.{List}
 use lib.ListN.{length, take}
 use Rattle.scan.specs.Lists.{over}
-use Rattle.attributes.specs.declared.IterState.{IterState}
-use Rattle.batch.specs.declared.Batch.{Batch}
-use Rattle.batch.specs.declared.Batch.the-variants.{Read, WrongTables}
-use Rattle.batch.specs.Batch.{Batched, batchOf}
+use Rattle.tag_step.specs.declared.IterState.{IterState}
+use Rattle.tag_batch.specs.declared.Batch.{Batch}
+use Rattle.tag_batch.specs.declared.Batch.the-variants.{Read, WrongTables}
+use Rattle.tag_batch.specs.Batch.{Batched, batchOf}
 use Rattle.lines.specs.declared.Paged.{Paged}
 use Rattle.lines.specs.Lines.{linesIn}
 

@@ -5,13 +5,13 @@
 //
 // `D`, `S`, `U` with the bounds of key and value, `B` with those of a bare key, `E` with a refusal's number and its values.
 // The definitions are in specs/Lines.antt.
-use attributes::Place;
-use batch::Batch;
+use tag_batch::Batch;
+use tag_step::Place;
 ghost use mathlib.Core.Path.{_≡_};
 ghost use Prim.Native.Nat.{_+_, _*_, _≤_};
 ghost use lib.ListN.{length};
 ghost use Rattle.scan.specs.Lists.{over};
-ghost use Rattle.attributes.specs.Next.{lentState};
+ghost use Rattle.tag_step.specs.Next.{lentState};
 ghost use Rattle.lines.specs.Lines.{decimalOf, spaced, letterOf, shownFrom, valuesOf, ownOf, lineOf, linesIn};
 ghost use Rattle.lines.specs.Page.{answersIn, pageLeft, pageOf};
 
@@ -153,14 +153,14 @@ pub fn answers(left: Batch) -> usize
     }
 }
 
-// What a page leaves: as `batch::read_batch` does, and how long the text is.
+// What a page leaves: as `tag_batch::read_batch` does, and how long the text is.
 pub struct Paged {
     pub left: Batch,
     pub length: usize,
 }
 
 // The lines of the next answers of a run, as many as `numbers` holds, at the front of `out`. The rest is as in
-// `batch::read_batch`.
+// `tag_batch::read_batch`.
 pub fn page<'a>(
     tag: &[u8],
     starts: &'a mut [usize],
@@ -176,7 +176,7 @@ pub fn page<'a>(
         ⌜ pageLeft r (now (starts .exit)) (now (ends .exit)) (now (numbers .exit)) (now (out .exit))
         ≡ pageOf (now (tag .entry)) (lentState place html checks (now (starts .entry)) (now (ends .entry)) count) (now (numbers .entry)) (now (out .entry)) ⌝ }
 {
-    let left = batch::read_batch(tag, starts, ends, html, checks, count, place, numbers);
+    let left = tag_batch::read_batch(tag, starts, ends, html, checks, count, place, numbers);
     let to = 5 * answers(left);
     let length = put_lines(&numbers[..to], out);
     Paged {

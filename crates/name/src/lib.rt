@@ -88,7 +88,7 @@ impl Verdict {
 pub fn colon_at(name: &[u8]) -> usize
     ensures { λ r. ⌜ r ≡ colonAt (now (name .entry)) ⌝ }
 {
-    scan::byte_by_bytes(name, 0, b':')
+    scan::byte_near(name, b':')
 }
 
 // The first colon: `QName::index`, src/name.rs.

@@ -6,12 +6,12 @@ use mathlib.Core.List.{List, [], _∷_}
 use native.Mathlib.Numerals.{add-one}
 use lib.ListN.{length}
 use Rattle.scan.specs.First.{pick}
-use Rattle.attributes.specs.declared.Answer.{Answer}
-use Rattle.attributes.specs.declared.IterState.{IterState}
-use Rattle.attributes.specs.Next.{stateGood, nextOf}
-use Rattle.attributes.specs.Run.{isEnd, consUnless, runOf, answersOf}
-use Rattle.attributes.proofs.Good.{Sized}
-use Rattle.attributes.proofs.Run.{run-whole}
+use Rattle.tag_step.specs.declared.Answer.{Answer}
+use Rattle.tag_step.specs.declared.IterState.{IterState}
+use Rattle.tag_step.specs.Next.{stateGood, nextOf}
+use Rattle.tag_step.specs.Run.{isEnd, consUnless, runOf, answersOf}
+use Rattle.tag_step.proofs.Good.{Sized}
+use Rattle.tag_step.proofs.Run.{run-whole}
 use Rattle.scope_table.specs.Table.{validOf}
 use Rattle.scope_table.specs.declared.NamespaceResolver.{NamespaceResolver}
 use Rattle.scope_nil.specs.declared.Nil.{Nil}

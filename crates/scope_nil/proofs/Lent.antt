@@ -17,17 +17,17 @@ use Rattle.scan.proofs.Laws.{picks}
 use Rattle.scan.proofs.Bytes.{both}
 use Rattle.scan.proofs.Lists.{part-same}
 use Rattle.name.specs.Split.{hasColon, prefixOf, localOf}
-use Rattle.keys.specs.Keys.{capacity, holds, tableGood, KeysIn}
-use Rattle.keys.proofs.Laws.{table-in, facts-hold}
-use Rattle.attributes.specs.declared.Place.the-variants.{Done}
-use Rattle.attributes.specs.declared.IterState.{IterState}
-use Rattle.attributes.specs.declared.Answer.{Answer}
-use Rattle.attributes.specs.Next.{placeGood, stateGood, nextOf, lentState}
-use Rattle.attributes.specs.Lent.{padKeys, wholeOf, steppedOf}
-use Rattle.attributes.specs.Run.{isEnd}
-use Rattle.attributes.proofs.Good.{Sized, next-stays-good, next-sized}
-use Rattle.attributes.proofs.Lent.{pad-length, pad-front, whole-good, bad-leaves, full-leaves}
-use Rattle.parts.specs.Parts.{keyPart, valuePart, truthOf}
+use Rattle.tag_keys.specs.Keys.{capacity, holds, tableGood, KeysIn}
+use Rattle.tag_keys.proofs.Laws.{table-in, facts-hold}
+use Rattle.tag_step.specs.declared.Place.the-variants.{Done}
+use Rattle.tag_step.specs.declared.IterState.{IterState}
+use Rattle.tag_step.specs.declared.Answer.{Answer}
+use Rattle.tag_step.specs.Next.{placeGood, stateGood, nextOf, lentState}
+use Rattle.tag_step.specs.Lent.{padKeys, wholeOf, steppedOf}
+use Rattle.tag_step.specs.Run.{isEnd}
+use Rattle.tag_step.proofs.Good.{Sized, next-stays-good, next-sized}
+use Rattle.tag_step.proofs.Lent.{pad-length, pad-front, whole-good, bad-leaves, full-leaves}
+use Rattle.tag_parts.specs.Parts.{keyPart, valuePart, truthOf}
 use Rattle.scope_table.specs.Records.{recordAt, valueStart, valueEnd}
 use Rattle.scope_table.specs.Table.{TEXT, NUMBERS, resolverOf, validOf}
 use Rattle.scope_table.specs.Lent.{padTo, standsFor, lent, formOf}

@@ -14,26 +14,26 @@ use borrow.Author.Tests.{eqb-false}
 use Rattle.scan.specs.First.{pick}
 use Rattle.scan.specs.Bytes.{sameBytes, bytes}
 use Rattle.name.specs.Split.{hasColon, prefixOf, localOf}
-use Rattle.attributes.specs.declared.Place.{Place}
-use Rattle.attributes.specs.declared.Place.the-variants.{Done}
-use Rattle.attributes.specs.declared.Start.{Start}
-use Rattle.attributes.specs.declared.Start.the-variants.{From, Ended}
-use Rattle.attributes.specs.declared.Answer.{Answer}
-use Rattle.attributes.specs.declared.Answer.the-variants.{End, DoubleQ, SingleQ, Unquoted, Empty, ExpectedEq, ExpectedValue, UnquotedValue, ExpectedQuote, Duplicated, KeyTableFull, BadState}
-use Rattle.attributes.specs.declared.Outcome.{Outcome}
-use Rattle.attributes.specs.declared.IterState.{IterState}
-use Rattle.attributes.specs.declared.Step.{Step}
-use Rattle.parts.specs.declared.Truth.{Truth}
-use Rattle.parts.specs.declared.Truth.the-variants.{Yes, No, Neither}
-use Rattle.attributes.specs.Read.{recoverOf}
-use Rattle.attributes.specs.Next.{Ready, lent, made, stepOf, keysOf, stateGood, noKeys, badReading, leaves, nextOf, lentState}
-use Rattle.attributes.specs.Run.{isEnd}
-use Rattle.parts.specs.Parts.{keyPart, valuePart, truthOf}
-use Rattle.attributes.proofs.Answer as A
-use Rattle.parts.proofs.Truth as T
-use Rattle.attributes.proofs.Whole.{lent-step, next-bad, next-steps, next-ready}
-use Rattle.attributes.proofs.Good.{Sized, next-stays-good, next-sized}
-use Rattle.attributes.proofs.Run.{todo, todo-falls}
+use Rattle.tag_step.specs.declared.Place.{Place}
+use Rattle.tag_step.specs.declared.Place.the-variants.{Done}
+use Rattle.tag_step.specs.declared.Start.{Start}
+use Rattle.tag_step.specs.declared.Start.the-variants.{From, Ended}
+use Rattle.tag_step.specs.declared.Answer.{Answer}
+use Rattle.tag_step.specs.declared.Answer.the-variants.{End, DoubleQ, SingleQ, Unquoted, Empty, ExpectedEq, ExpectedValue, UnquotedValue, ExpectedQuote, Duplicated, KeyTableFull, BadState}
+use Rattle.tag_step.specs.declared.Outcome.{Outcome}
+use Rattle.tag_step.specs.declared.IterState.{IterState}
+use Rattle.tag_step.specs.declared.Step.{Step}
+use Rattle.tag_parts.specs.declared.Truth.{Truth}
+use Rattle.tag_parts.specs.declared.Truth.the-variants.{Yes, No, Neither}
+use Rattle.tag_step.specs.Read.{recoverOf}
+use Rattle.tag_step.specs.Next.{Ready, lent, made, stepOf, keysOf, stateGood, noKeys, badReading, leaves, nextOf, lentState}
+use Rattle.tag_step.specs.Run.{isEnd}
+use Rattle.tag_parts.specs.Parts.{keyPart, valuePart, truthOf}
+use Rattle.tag_step.proofs.Answer as A
+use Rattle.tag_parts.proofs.Truth as T
+use Rattle.tag_step.proofs.Whole.{lent-step, next-bad, next-steps, next-ready}
+use Rattle.tag_step.proofs.Good.{Sized, next-stays-good, next-sized}
+use Rattle.tag_step.proofs.Run.{todo, todo-falls}
 use Rattle.scope_table.specs.Records.{recordAt}
 use Rattle.scope_table.specs.Table.{validOf}
 use Rattle.scope_table.specs.declared.NamespaceResolver.{NamespaceResolver}

@@ -9,15 +9,15 @@ use lib.Dec.{leb}
 use Rattle.scan.specs.First.{pick}
 use Rattle.scan.specs.Bytes.{sameBytes, bytes}
 use Rattle.name.specs.Split.{hasColon, prefixOf, localOf}
-use Rattle.keys.specs.Keys.{capacity, holds}
-use Rattle.attributes.specs.declared.Answer.{Answer}
-use Rattle.attributes.specs.declared.IterState.{IterState}
-use Rattle.attributes.specs.Next.{stateGood, nextOf, lentState}
-use Rattle.attributes.specs.Lent.{wholeOf, steppedOf}
-use Rattle.attributes.specs.Run.{isEnd}
-use Rattle.parts.specs.declared.Truth.{Truth}
-use Rattle.parts.specs.declared.Truth.the-variants as Says
-use Rattle.parts.specs.Parts.{keyPart, valuePart, truthOf}
+use Rattle.tag_keys.specs.Keys.{capacity, holds}
+use Rattle.tag_step.specs.declared.Answer.{Answer}
+use Rattle.tag_step.specs.declared.IterState.{IterState}
+use Rattle.tag_step.specs.Next.{stateGood, nextOf, lentState}
+use Rattle.tag_step.specs.Lent.{wholeOf, steppedOf}
+use Rattle.tag_step.specs.Run.{isEnd}
+use Rattle.tag_parts.specs.declared.Truth.{Truth}
+use Rattle.tag_parts.specs.declared.Truth.the-variants as Says
+use Rattle.tag_parts.specs.Parts.{keyPart, valuePart, truthOf}
 use Rattle.scope_table.specs.Records.{recordAt}
 use Rattle.scope_table.specs.Table.{validOf}
 use Rattle.scope_table.specs.Lent.{lent}

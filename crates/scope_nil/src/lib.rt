@@ -5,14 +5,14 @@
 //         opened        no           yes: the iterator is left here
 //
 // Both are tested once a call: every name is then looked up in a table that was found good.
-use attributes::Answer;
-use attributes::IterState;
-use attributes::Place;
-use keys::CAPACITY;
-use parts::Truth;
 use scope_table::Form;
 use scope_table::Head;
 use scope_table::NamespaceResolver;
+use tag_keys::CAPACITY;
+use tag_parts::Truth;
+use tag_step::Answer;
+use tag_step::IterState;
+use tag_step::Place;
 ghost use mathlib.Core.Path.{_≡_};
 ghost use Prim.Native.Nat.{_≤_};
 ghost use lib.ListN.{length, take};
@@ -74,7 +74,7 @@ fn is_nil<'t, 'n>(
     if !scan::same(name::local_name(key), b"nil") {
         return false;
     }
-    let truth = parts::as_bool(value);
+    let truth = tag_parts::as_bool(value);
     let Truth::Yes = truth else {
         return false;
     };
@@ -103,7 +103,7 @@ fn search<'k, 't>(
     let mut stand = at.place;
     let mut recorded = at.count;
     loop {
-        let made = attributes::step_lent(tag, starts, ends, html, checks, recorded, stand);
+        let made = tag_step::step_lent(tag, starts, ends, html, checks, recorded, stand);
         let answer = made.answer;
         stand = made.place;
         recorded = made.count;
@@ -114,8 +114,8 @@ fn search<'k, 't>(
                 count: recorded,
             };
         }
-        let key = parts::key_part(tag, answer);
-        let value = parts::value_part(tag, answer);
+        let key = tag_parts::key_part(tag, answer);
+        let value = tag_parts::value_part(tag, answer);
         if is_nil(text, records, head, key, value) {
             return Left {
                 answer: Nil::Yes,
@@ -161,7 +161,7 @@ fn search_short<'k, 't>(
     copy(&mut all_ends, ends, m);
     let found = search(tag, &mut all_starts, &mut all_ends, at, text, records, head);
     let count = found.count;
-    if !keys::holds(starts, ends, count) {
+    if !tag_keys::holds(starts, ends, count) {
         return unmoved(Nil::LendMore, at);
     }
     copy(starts, &all_starts, n);
@@ -208,9 +208,9 @@ pub fn has_nil_in<'k, 't>(
     }
     let place = at.place;
     let count = at.count;
-    if !attributes::good_in(tag, starts, ends, count, place) {
-        attributes::clear(starts);
-        attributes::clear(ends);
+    if !tag_step::good_in(tag, starts, ends, count, place) {
+        tag_step::clear(starts);
+        tag_step::clear(ends);
         return Left {
             answer: Nil::BadState,
             place: Place::Done,

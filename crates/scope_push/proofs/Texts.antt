@@ -19,22 +19,22 @@ use Rattle.name.specs.declared.Declares.{Declares}
 use Rattle.name.specs.declared.Declares.the-variants.{Nothing, Default, Named}
 use Rattle.name.specs.declared.NamedCheck.{NamedCheck}
 use Rattle.name.specs.declared.NamedCheck.the-variants as Check
-use Rattle.keys.specs.declared.Checked.{Checked}
-use Rattle.keys.specs.declared.Checked.the-variants.{Fresh, Same, Full}
-use Rattle.attributes.specs.declared.Span.{Span}
-use Rattle.attributes.specs.declared.Start.{Start}
-use Rattle.attributes.specs.declared.Start.the-variants.{From, Ended}
-use Rattle.attributes.specs.declared.Answer.{Answer}
-use Rattle.attributes.specs.declared.Answer.the-variants.{End, DoubleQ, SingleQ, Unquoted, Empty, ExpectedEq, ExpectedValue, UnquotedValue, ExpectedQuote, Duplicated, KeyTableFull, BadState}
-use Rattle.attributes.specs.declared.Found.{Found}
-use Rattle.attributes.specs.Read.{span, recoverOf, quoted, closedOf, valueAt}
-use Rattle.attributes.specs.Next.{Keys, Reading, bareBy, bareTo, valuedBy, valuedTo, readAt, noKeys}
-use Rattle.attributes.specs.Run.{isEnd, consUnless, runFrom, answersFrom}
-use Rattle.attributes.proofs.Whole.{StartIn, recover-in}
-use Rattle.attributes.proofs.Ways.{value-ways, step-ways}
-use Rattle.attributes.proofs.Run.{opened-answers}
-use Rattle.parts.specs.Parts.{keyPart, valuePart}
-use Rattle.parts.proofs.Parts.{span-inside}
+use Rattle.tag_keys.specs.declared.Checked.{Checked}
+use Rattle.tag_keys.specs.declared.Checked.the-variants.{Fresh, Same, Full}
+use Rattle.tag_step.specs.declared.Span.{Span}
+use Rattle.tag_step.specs.declared.Start.{Start}
+use Rattle.tag_step.specs.declared.Start.the-variants.{From, Ended}
+use Rattle.tag_step.specs.declared.Answer.{Answer}
+use Rattle.tag_step.specs.declared.Answer.the-variants.{End, DoubleQ, SingleQ, Unquoted, Empty, ExpectedEq, ExpectedValue, UnquotedValue, ExpectedQuote, Duplicated, KeyTableFull, BadState}
+use Rattle.tag_step.specs.declared.Found.{Found}
+use Rattle.tag_step.specs.Read.{span, recoverOf, quoted, closedOf, valueAt}
+use Rattle.tag_step.specs.Next.{Keys, Reading, bareBy, bareTo, valuedBy, valuedTo, readAt, noKeys}
+use Rattle.tag_step.specs.Run.{isEnd, consUnless, runFrom, answersFrom}
+use Rattle.tag_step.proofs.Whole.{StartIn, recover-in}
+use Rattle.tag_step.proofs.Ways.{value-ways, step-ways}
+use Rattle.tag_step.proofs.Run.{opened-answers}
+use Rattle.tag_parts.specs.Parts.{keyPart, valuePart}
+use Rattle.tag_parts.proofs.Parts.{span-inside}
 use Rattle.scope_table.specs.Table.{DEEPEST, validOf}
 use Rattle.scope_table.specs.Answer.{isDone}
 use Rattle.scope_table.specs.declared.NamespaceResolver.{NamespaceResolver}

@@ -9,19 +9,19 @@ use types.Run.{OneOf}
 use denote.Enum.Declared.{tagOf}
 use lib.ListN.{length}
 use borrow.Author.Tests.{eqb-false}
-use Rattle.attributes.specs.declared.Span.{Span}
-use Rattle.attributes.specs.declared.Place.{Place}
-use Rattle.attributes.specs.declared.Place.the-variants.{Next}
-use Rattle.attributes.specs.declared.Answer.{Answer}
-use Rattle.attributes.specs.declared.Answer.the-variants.{End, DoubleQ, SingleQ, Unquoted, Empty, ExpectedEq, ExpectedValue, UnquotedValue, ExpectedQuote, Duplicated, KeyTableFull, BadState}
-use Rattle.attributes.specs.declared.Found.{Found}
-use Rattle.attributes.specs.Read.{recoverOf}
-use Rattle.attributes.specs.Next.{placeGood, standing, uncheckedOf}
-use Rattle.attributes.specs.Run.{isEnd, consUnless, answersOf}
-use Rattle.attributes.proofs.Answer as E
-use Rattle.attributes.proofs.Run.{todo}
-use Rattle.attributes.proofs.Unchecked.{unchecked-less, unchecked-stands, unchecked-turn, unchecked-opened}
-use Rattle.parts.specs.Parts.{keyPart, valuePart}
+use Rattle.tag_step.specs.declared.Span.{Span}
+use Rattle.tag_step.specs.declared.Place.{Place}
+use Rattle.tag_step.specs.declared.Place.the-variants.{Next}
+use Rattle.tag_step.specs.declared.Answer.{Answer}
+use Rattle.tag_step.specs.declared.Answer.the-variants.{End, DoubleQ, SingleQ, Unquoted, Empty, ExpectedEq, ExpectedValue, UnquotedValue, ExpectedQuote, Duplicated, KeyTableFull, BadState}
+use Rattle.tag_step.specs.declared.Found.{Found}
+use Rattle.tag_step.specs.Read.{recoverOf}
+use Rattle.tag_step.specs.Next.{placeGood, standing, uncheckedOf}
+use Rattle.tag_step.specs.Run.{isEnd, consUnless, answersOf}
+use Rattle.tag_step.proofs.Answer as E
+use Rattle.tag_step.proofs.Run.{todo}
+use Rattle.tag_step.proofs.Unchecked.{unchecked-less, unchecked-stands, unchecked-turn, unchecked-opened}
+use Rattle.tag_parts.specs.Parts.{keyPart, valuePart}
 use Rattle.scope_table.specs.Answer.{isDone}
 use Rattle.scope_table.specs.Lent.{given, lentOf}
 use Rattle.scope_table.specs.declared.Head.{Head}

@@ -8,12 +8,12 @@ use lib.Dec.{leb}
 use Rattle.scan.specs.First.{pick}
 use Rattle.name.specs.declared.Declares.{Declares}
 use Rattle.name.specs.Declares.{declaresOf, declaredPrefix}
-use Rattle.attributes.specs.declared.Span.{Span}
-use Rattle.attributes.specs.declared.Answer.{Answer}
-use Rattle.attributes.specs.declared.Answer.the-variants.{End, DoubleQ, SingleQ, Unquoted, Empty, ExpectedEq, ExpectedValue, UnquotedValue, ExpectedQuote, Duplicated, KeyTableFull, BadState}
-use Rattle.attributes.specs.Next.{opened}
-use Rattle.attributes.specs.Run.{answersOf}
-use Rattle.parts.specs.Parts.{keyPart, valuePart}
+use Rattle.tag_step.specs.declared.Span.{Span}
+use Rattle.tag_step.specs.declared.Answer.{Answer}
+use Rattle.tag_step.specs.declared.Answer.the-variants.{End, DoubleQ, SingleQ, Unquoted, Empty, ExpectedEq, ExpectedValue, UnquotedValue, ExpectedQuote, Duplicated, KeyTableFull, BadState}
+use Rattle.tag_step.specs.Next.{opened}
+use Rattle.tag_step.specs.Run.{answersOf}
+use Rattle.tag_parts.specs.Parts.{keyPart, valuePart}
 use Rattle.scope_table.specs.Table.{DEEPEST, headOf, resolverOf, validOf}
 use Rattle.scope_table.specs.Answer.{isDone, changed}
 use Rattle.scope_table.specs.declared.NamespaceResolver.{NamespaceResolver}

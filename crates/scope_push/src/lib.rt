@@ -6,9 +6,6 @@
 //                                    u and p are bound, q is not
 //
 // On lent memory (`push_in`) and by value (`push`), as the other changing calls.
-use attributes::Answer;
-use attributes::Place;
-use attributes::Span;
 use scope_change::Room;
 use scope_declare::Places;
 use scope_table::Changed;
@@ -17,6 +14,9 @@ use scope_table::Head;
 use scope_table::NamespaceResolver;
 use scope_table::NamespaceResult;
 use scope_table::Outcome;
+use tag_step::Answer;
+use tag_step::Place;
+use tag_step::Span;
 ghost use mathlib.Core.Path.{_≡_};
 ghost use lib.ListN.{length};
 ghost use Rattle.scope_table.specs.Lent.{given, lentOf};
@@ -71,7 +71,7 @@ fn take_all<'s>(
     let mut place = Place::Next(from);
     let mut left = head;
     loop {
-        let step = attributes::step_unchecked(tag, false, place);
+        let step = tag_step::step_unchecked(tag, false, place);
         let answer = step.answer;
         let (Answer::DoubleQ(key, value) | Answer::SingleQ(key, value)) = answer else {
             return Outcome {
@@ -83,8 +83,8 @@ fn take_all<'s>(
             text,
             records,
             left,
-            parts::key_part(tag, answer),
-            parts::value_part(tag, answer),
+            tag_parts::key_part(tag, answer),
+            tag_parts::value_part(tag, answer),
             key,
             value,
         );

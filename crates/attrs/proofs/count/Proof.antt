@@ -1,7 +1,7 @@
 -- `attrs::count` meets its contract: tables of zeros are those of a fresh iterator.
 use mathlib.Core.Path.{refl}
-use Rattle.attributes.specs.Next.{opened, noKeys}
-use Rattle.batch.specs.Batch.{roomOf}
+use Rattle.tag_step.specs.Next.{opened, noKeys}
+use Rattle.tag_batch.specs.Batch.{roomOf}
 use Rattle.attrs.specs.Count.{openedOn, tagAnswers}
 use borrow.Author.Needs.{needs}
 use Rattle.attrs.proofs.count.Statement.{statement}

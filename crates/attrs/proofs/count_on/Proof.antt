@@ -6,9 +6,9 @@ use mathlib.Core.Bool.{true, false}
 use native.Mathlib.Omega.{arith}
 use lib.ListN.{length, length-append}
 use borrow.Author.Needs.{needs}
-use Rattle.attributes.specs.Run.{runOf}
-use Rattle.attributes.specs.Next.{lentState}
-use Rattle.batch.specs.Batch.{roomOf}
+use Rattle.tag_step.specs.Run.{runOf}
+use Rattle.tag_step.specs.Next.{lentState}
+use Rattle.tag_batch.specs.Batch.{roomOf}
 use Rattle.lines.proofs.Batches.{Stand, stand-first, stand-next, stand-last, stand-bound, never-wrong, read-count, read-left}
 use Rattle.attrs.specs.Count.{openedOn}
 use Rattle.attrs.proofs.Turn.{room, full, total-fits}

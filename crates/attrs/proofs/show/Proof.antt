@@ -1,7 +1,7 @@
 -- `attrs::show` meets its contract: tables of zeros are those of a fresh iterator, and the text has room for a page.
 use mathlib.Core.Path.{refl}
 use native.Mathlib.Omega.{arith}
-use Rattle.batch.specs.Batch.{roomOf}
+use Rattle.tag_batch.specs.Batch.{roomOf}
 use borrow.Author.Needs.{needs}
 use Rattle.attrs.proofs.show.Statement.{statement}
 use Rattle.attrs.proofs.show.Tie as tie

@@ -7,7 +7,7 @@ use native.Mathlib.Omega.{arith}
 use lib.ListN.{length}
 use lib.Seq.{length-take-le}
 use borrow.Author.Needs.{needs}
-use Rattle.attributes.specs.Next.{lentState}
+use Rattle.tag_step.specs.Next.{lentState}
 use Rattle.attrs.proofs.Showing.{Showing, showing-none, turn-fits, turn-next, turn-never, turn-last, turn-adds, turn-less, turn-more}
 use Rattle.attrs.proofs.show_on.Statement.{statement}
 use Rattle.attrs.proofs.show_on.Tie as tie

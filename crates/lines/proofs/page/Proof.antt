@@ -5,8 +5,8 @@ use mathlib.Core.List.{List}
 use native.Mathlib.Omega.{arith}
 use lib.ListN.{length, take}
 use lib.Seq.{length-take-le}
-use Rattle.attributes.specs.Next.{lentState}
-use Rattle.batch.specs.Batch.{Batched}
+use Rattle.tag_step.specs.Next.{lentState}
+use Rattle.tag_batch.specs.Batch.{Batched}
 use Rattle.lines.specs.Page.{answersIn}
 use Rattle.lines.proofs.Batches.{batch-sizes}
 use Rattle.lines.proofs.Pages.{page-is}

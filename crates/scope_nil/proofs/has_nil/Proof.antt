@@ -2,7 +2,7 @@
 -- again.
 use mathlib.Core.Path.{_≡_, ap, _∙_}
 use borrow.Author.Needs.{needs}
-use Rattle.attributes.proofs.Good.{Sized}
+use Rattle.tag_step.proofs.Good.{Sized}
 use Rattle.scope_nil.proofs.Lent.{full-in}
 use Rattle.scope_nil.proofs.has_nil.Statement.{statement}
 use Rattle.scope_nil.proofs.has_nil.Tie as tie

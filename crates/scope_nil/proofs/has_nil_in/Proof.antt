@@ -5,7 +5,7 @@ use mathlib.Core.Bool.{true, false}
 use native.Mathlib.Omega.{arith}
 use borrow.Author.Needs.{needs}
 use borrow.Author.Tests.{not-true, not-false}
-use Rattle.attributes.specs.Next.{stateGood}
+use Rattle.tag_step.specs.Next.{stateGood}
 use Rattle.scope_table.specs.Table.{resolverOf}
 use Rattle.scope_table.proofs.Good.{ready}
 use Rattle.scope_lookup.proofs.Padded.{ready-inside}

@@ -3,10 +3,10 @@
 use mathlib.Core.Path.{_≡_, refl, sym, ap, _∙_}
 use mathlib.Core.Bool.{true}
 use borrow.Author.Needs.{needs}
-use Rattle.attributes.specs.Next.{stateGood, lentState}
-use Rattle.attributes.specs.Run.{isEnd}
-use Rattle.attributes.proofs.Good.{Sized}
-use Rattle.attributes.proofs.Whole.{lent-step}
+use Rattle.tag_step.specs.Next.{stateGood, lentState}
+use Rattle.tag_step.specs.Run.{isEnd}
+use Rattle.tag_step.proofs.Good.{Sized}
+use Rattle.tag_step.proofs.Whole.{lent-step}
 use Rattle.scope_table.specs.Table.{resolverOf}
 use Rattle.scope_nil.specs.Nil.{searched}
 use Rattle.scope_nil.proofs.Turns.{unread, search-ends, search-yes, search-on, no-end, says-by, lent-ready, lent-good, lent-sized, lent-falls}

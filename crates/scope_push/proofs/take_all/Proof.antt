@@ -6,11 +6,11 @@ use mathlib.Core.Logic.{⊎-elim, inl, inr}
 use native.Mathlib.Omega.{arith}
 use borrow.Author.Needs.{needs}
 use lib.ListN.{length}
-use Rattle.attributes.specs.Read.{recoverOf}
-use Rattle.attributes.specs.Next.{placeGood}
-use Rattle.attributes.proofs.Run.{todo}
-use Rattle.attributes.proofs.Unchecked.{opened-stands}
-use Rattle.parts.specs.Parts.{keyPart, valuePart}
+use Rattle.tag_step.specs.Read.{recoverOf}
+use Rattle.tag_step.specs.Next.{placeGood}
+use Rattle.tag_step.proofs.Run.{todo}
+use Rattle.tag_step.proofs.Unchecked.{opened-stands}
+use Rattle.tag_parts.specs.Parts.{keyPart, valuePart}
 use Rattle.scope_table.proofs.Answers.{refused}
 use Rattle.scope_change.specs.Change.{whole}
 use Rattle.scope_push.specs.Push.{declarationOf, tagDeclarations}

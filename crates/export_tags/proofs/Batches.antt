@@ -1,0 +1,46 @@
+-- The ways in which a batch comes back over the boundary, each as `readBatchOf` says it.
+use Prim.Native.Nat.{ℕ, _≤_, _<_}
+use mathlib.Core.Path.{_≡_, sym, ap, _∙_}
+use mathlib.Core.Bool.{Bool}
+use mathlib.Core.List.{List}
+use lib.ListN.{length, getD, set}
+use borrow.Author.Tests.{lt-ltb, le-ltb}
+use Rattle.tag_step.specs.declared.Place.{Place}
+use Rattle.tag_step.specs.declared.IterState.{IterState}
+use Rattle.tag_step.specs.Next.{lentState}
+use Rattle.tag_batch.specs.declared.Batch.{Batch}
+use Rattle.tag_batch.specs.declared.Batch.the-variants.{Read, WrongTables}
+use Rattle.tag_batch.specs.declared.Why.{Why}
+use Rattle.tag_batch.specs.Batch.{whyNumber, Batched, batched, batchOf}
+use Rattle.export_cursor.specs.Cursor.{placeFrom, settledOf, heldIn}
+use Rattle.export_tags.specs.Reading.{Reading, reading, NONE, stateBy, across, readBatchOf}
+
+module _ (tag starts ends state out : List ℕ) (html checks : Bool) (place : Place) (stands : place ≡ placeFrom (length tag) (getD state 0 0) (getD state 1 0))
+    (b : Batch) (starts' ends' out' : List ℕ) (e : batched b starts' ends' out' ≡ batchOf tag (lentState place html checks starts ends (getD state 2 0)) out) where
+  went : across state place (length out) (batched b starts' ends' out') ≡ readBatchOf tag starts ends state out html checks
+  unfolding readBatchOf heldIn
+  went =
+      ap (across state place (length out)) e
+      ∙ ap (λ (p : Place). across state p (length out) (batchOf tag (lentState p html checks starts ends (getD state 2 0)) out)) stands
+
+  -- tables that are too long
+  pub tables-refused : b ≡ WrongTables → reading NONE starts' ends' state out' ≡ readBatchOf tag starts ends state out html checks
+  unfolding stateBy
+  tables-refused w = ap (λ (x : Batch). across state place (length out) (batched x starts' ends' out')) (sym w) ∙ went
+
+  module _ (n : ℕ) (left : Place) (recorded : ℕ) (why : Why) (r : b ≡ Read n left recorded why) where
+    -- no room
+    pub room-none : length out < 5 → reading n starts' ends' state out' ≡ readBatchOf tag starts ends state out html checks
+    unfolding stateBy
+    room-none h =
+        rw (lt-ltb (length out) 5 h) at (ap (λ (x : Batch). across state place (length out) (batched x starts' ends' out')) (sym r)) ∙ went
+
+    pub read-leaves : 5 ≤ length out → (state' : List ℕ) → state' ≡ set (settledOf state place left recorded) 3 (whyNumber why) → reading n starts' ends' state' out' ≡ readBatchOf tag starts ends state out html checks
+    unfolding stateBy
+    read-leaves h state' w =
+        ap (λ (l : List ℕ). reading n starts' ends' l out') w
+        ∙ (rw (le-ltb (length out) 5 h) at (ap (λ (x : Batch). across state place (length out) (batched x starts' ends' out')) (sym r))) ∙ went
+
+-- the numbers as the code leaves them
+pub settled : (state' : List ℕ) (k : ℕ) {w : List ℕ} {m : ℕ} (e : state' ≡ w) → k ≡ m → set state' 3 k ≡ set w 3 m
+settled state' k e n = rw (e, n)

@@ -1,0 +1,48 @@
+-- A batch across the boundary: an iterator in two lent tables and four lent numbers, and what a call leaves in them.
+use Prim.Native.Nat.{ℕ}
+use mathlib.Core.Bool.{Bool}
+use mathlib.Core.List.{List}
+use lib.ListN.{length, getD, set}
+use lib.Dec.{ltb}
+use Rattle.scan.specs.First.{pick}
+use Rattle.tag_step.specs.declared.Place.{Place}
+use Rattle.tag_batch.specs.declared.Batch.{Batch}
+use Rattle.tag_batch.specs.declared.Batch.the-variants.{Read, WrongTables}
+use Rattle.tag_batch.specs.Batch.{whyNumber, Batched, batchOf}
+use Rattle.export_cursor.specs.Cursor.{placeFrom, settledOf, heldIn}
+
+-- what a call answers, and the lent memory after it
+pub record Reading : Type 0 where
+  pub answers : ℕ
+  pub starts : List ℕ
+  pub ends : List ℕ
+  pub state : List ℕ
+  pub out : List ℕ
+
+abbrev pub reading : ℕ → (starts ends state out : List ℕ) → Reading
+reading n starts ends state out = record { answers = n; starts = starts; ends = ends; state = state; out = out }
+
+-- no number of answers: the largest number there is
+abbrev pub NONE : ℕ
+NONE = 18446744073709551615
+
+-- the number of answers; none for tables that are too long
+abbrev pub answersBy : Batch → ℕ
+answersBy (Read n left recorded why) = n
+answersBy WrongTables = NONE
+
+-- The four numbers after a batch: the place that is left, the recorded keys, and why it stopped. With room for no answer
+-- nothing is written, nor where the tables are too long.
+unfoldable pub stateBy : (state : List ℕ) (before : Place) (room : ℕ) → Batch → List ℕ
+stateBy state before room (Read n left recorded why) =
+    pick (ltb room 5) state (set (settledOf state before left recorded) 3 (whyNumber why))
+stateBy state before room WrongTables = state
+
+-- a batch, with those numbers before it and the room that it had
+abbrev pub across : (state : List ℕ) (before : Place) (room : ℕ) → Batched → Reading
+across state before room x = reading (answersBy (x .batch)) (x .starts) (x .ends) (stateBy state before room (x .batch)) (x .out)
+
+unfoldable pub readBatchOf : (tag starts ends state out : List ℕ) (html checks : Bool) → Reading
+readBatchOf tag starts ends state out html checks =
+    across state (placeFrom (length tag) (getD state 0 0) (getD state 1 0)) (length out)
+    (batchOf tag (heldIn tag starts ends state html checks) out)

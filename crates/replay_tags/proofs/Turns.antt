@@ -1,0 +1,163 @@
+-- One batch held against the recorded numbers: it decides, or leaves it to what is left of both.
+use Prim.Native.Nat.{ℕ, zero, suc, _+_, _-_, _*_, _/_, _≤_, _<_}
+use mathlib.Core.Path.{_≡_, refl, sym, ap, _∙_}
+use mathlib.Core.Bool.{Bool, true, false, _&&_}
+use mathlib.Core.List.{List, [], _∷_, _++_, append-nil}
+use native.Mathlib.Omega.{arith}
+use lib.ListN.{length, take, drop, getD, length-append, length-take, length-drop}
+use lib.Seq.{drop-drop, getD-drop, take-all, take-at}
+use lib.Dec.{eqb, leb}
+use borrow.Author.Tests.{eq-eqb, ne-eqb, eqb-true, eqb-false, leb-true, leb-false}
+use Rattle.scan.specs.Bytes.{sameBytes}
+use Rattle.scan.proofs.Bytes.{same-length}
+use Rattle.tag_step.specs.declared.Answer.{Answer}
+use Rattle.tag_step.specs.declared.IterState.{IterState}
+use Rattle.tag_step.specs.Run.{runOf, answersOf}
+use Rattle.tag_step.proofs.Run.{run-whole}
+use Rattle.tag_step.proofs.Good.{Sized}
+use Rattle.scan.specs.Lists.{over}
+use Rattle.scan.proofs.Lists.{over-length}
+use Rattle.tag_batch.specs.Batch.{fivesOf, leftOf, roomOf}
+use Rattle.lines.proofs.Batches.{stand-first, stand-last, fives-length, fives-append, run-most, run-full}
+use Rattle.replay.specs.Numbers.{twosOf}
+use Rattle.replay.proofs.Twos.{twos-length, twos-add}
+use Rattle.replay_tags.specs.Replay.{agreesWith}
+
+same-append : (a b c d : List ℕ) → length a ≡ length c → sameBytes (a ++ b) (c ++ d) ≡ (sameBytes a c && sameBytes b d)
+unfolding sameBytes
+same-append [] b [] d h = refl
+same-append [] b (y ∷ c) d h = absurd (omega arith)
+same-append (x ∷ a) b [] d h = absurd (omega arith)
+same-append (x ∷ a) b (y ∷ c) d h = rw (same-append a b c d (omega arith)) (sym (and-assoc (eqb x y) (sameBytes a c) (sameBytes b d))) where
+  and-assoc : (p q r : Bool) → ((p && q) && r) ≡ (p && (q && r))
+  and-assoc true q r = refl
+  and-assoc false q r = refl
+
+-- the answers are those of one batch and those after it
+answers-split : (s : List ℕ) (st : IterState) → Sized st → (m : ℕ) → length (runOf m s st) ≡ m → answersOf s st ≡ runOf m s st ++ answersOf s (leftOf m s st)
+unfolding answersOf
+answers-split s st z m h =
+    let e : suc (length s) + m ≡ m + suc (length s) = omega arith in
+    sym (run-whole m s st z) ∙ rw e (run-full (suc (length s)) s m st h)
+
+same-none : (l : List ℕ) → sameBytes [] (twosOf 0 l) ≡ true
+unfolding sameBytes twosOf
+same-none l = refl
+
+record FrontOf (s : List ℕ) (st : IterState) (m : ℕ) : Type 0 where
+  more : List Answer
+  is : answersOf s st ≡ runOf m s st ++ more
+
+module _ (s : List ℕ) (st : IterState) (z : Sized st) (m k : ℕ) (rest : List ℕ) where
+  abbrev Front : Type 0
+  Front = FrontOf s st m
+
+  abbrev n : ℕ
+  n = length (runOf m s st)
+
+  abbrev same : Bool
+  same = sameBytes (fivesOf (runOf m s st)) (twosOf (5 * n) rest)
+
+  -- a batch that is not full: all answers are in it
+  module _ (few : n < m) where
+    all : answersOf s st ≡ runOf m s st
+    unfolding runOf
+    all = stand-last s st 0 st (stand-first s st z) m few
+
+  split : (more : List ℕ) → n ≤ k → fivesOf (answersOf s st) ≡ fivesOf (runOf m s st) ++ more → agreesWith s st k rest ≡ (same && sameBytes more (twosOf (5 * (k - n)) (drop (10 * n) rest)))
+  unfolding agreesWith
+  split more le e =
+      let a : 5 * k ≡ 5 * n + 5 * (k - n) = omega arith in
+      let d : 2 * (5 * n) ≡ 10 * n = omega arith in
+      let t : twosOf (5 * k) rest ≡ twosOf (5 * n) rest ++ twosOf (5 * (k - n)) (drop (10 * n) rest) = rw (a, twos-add (5 * n) (5 * (k - n)) rest, d) in
+      rw (e, t) (same-append (fivesOf (runOf m s st)) more (twosOf (5 * n) rest) (twosOf (5 * (k - n)) (drop (10 * n) rest)) (fives-length (runOf m s st) ∙ sym (twos-length (5 * n) rest)))
+
+  -- a batch is at the front of all answers
+  fronts : (x : Bool) → leb m n ≡ x → Front
+  fronts true e =
+      let f : n ≡ m = omega (arith, run-most m s st, leb-true m n e) in
+      record { more = answersOf s (leftOf m s st); is = answers-split s st z m f }
+  fronts false e = record { more = []; is = all (leb-false m n e) ∙ sym (append-nil (runOf m s st)) }
+
+  front : Front
+  front = fronts (leb m n) refl
+
+  -- more answers than are recorded
+  pub too-many : k < n → false ≡ agreesWith s st k rest
+  unfolding agreesWith
+  too-many h =
+      let l = ap length (front .is) ∙ length-append (runOf m s st) (front .more) in
+      sym (same-length (fivesOf (answersOf s st)) (twosOf (5 * k) rest) (λ e. omega (arith, fives-length (answersOf s st), twos-length (5 * k) rest)))
+
+  module _ (le : n ≤ k) where
+    -- other numbers
+    pub differs : same ≡ false → false ≡ agreesWith s st k rest
+    differs e =
+        let f = ap fivesOf (front .is) ∙ fives-append (runOf m s st) (front .more) in
+        sym (split (fivesOf (front .more)) le f ∙ rw e)
+
+    module _ (e : same ≡ true) where
+      -- the last batch: how many answers there are decides
+      pub last-is : n < m → eqb n k ≡ agreesWith s st k rest
+      unfolding fivesOf
+      last-is few = sym (split [] le (ap fivesOf (all few) ∙ sym (append-nil (fivesOf (runOf m s st)))) ∙ rw e (nothing (eqb n k) refl)) where
+        nothing : (x : Bool) → eqb n k ≡ x → sameBytes [] (twosOf (5 * (k - n)) (drop (10 * n) rest)) ≡ eqb n k
+        nothing true h =
+            let i = eqb-true n k h in
+            let j : 5 * (k - n) ≡ 0 = omega arith in
+            rw (h, j) (same-none (drop (10 * n) rest))
+        nothing false h =
+            let i = eqb-false n k h in
+            rw h (same-length [] (twosOf (5 * (k - n)) (drop (10 * n) rest)) (λ q. i (omega (arith, twos-length (5 * (k - n)) (drop (10 * n) rest)))))
+
+      -- a full batch: what is left decides
+      pub goes-on : n ≡ m → agreesWith s st k rest ≡ agreesWith s (leftOf m s st) (k - n) (drop (10 * n) rest)
+      unfolding agreesWith
+      goes-on f = split (fivesOf (answersOf s (leftOf m s st))) le (ap fivesOf (answers-split s st z m f) ∙ fives-append (runOf m s st) (answersOf s (leftOf m s st))) ∙ rw e
+
+-- what the code compares is the batch and the recorded numbers from the place on
+pub compared : (s : List ℕ) (st : IterState) (out rec : List ℕ) (at : ℕ) → {n : ℕ} {r : Bool} {written : List ℕ} → n ≡ length (runOf (roomOf out) s st) → written ≡ over out 0 (fivesOf (runOf (roomOf out) s st)) → r ≡ sameBytes (take (5 * n) written) (twosOf (length (take (5 * n) written)) (take (length rec - at) (drop at rec))) → sameBytes (fivesOf (runOf (roomOf out) s st)) (twosOf (5 * length (runOf (roomOf out) s st)) (drop at rec)) ≡ r
+unfolding over
+compared s st out rec at {n} {r} {written} en ew er =
+    let l : List Answer = runOf (roomOf out) s st in
+    let a : length (fivesOf l) ≡ 5 * n = fives-length l ∙ ap (λ (k : ℕ). 5 * k) (sym en) in
+    let t : take (5 * n) written ≡ fivesOf l = ap (take (5 * n)) ew ∙ take-at (fivesOf l) (drop (0 + length (fivesOf l)) out) (5 * n) a in
+    let d : take (length rec - at) (drop at rec) ≡ drop at rec = take-all (length rec - at) (drop at rec) (omega (arith, length-drop at rec)) in
+    sym (er ∙ rw (t, d, fives-length l))
+
+-- how full a batch is, as the code asks it
+module _ (s : List ℕ) (st : IterState) (out written : List ℕ) {n : ℕ} (e : n ≡ length (runOf (roomOf out) s st)) (w : written ≡ over out 0 (fivesOf (runOf (roomOf out) s st))) where
+  size : length written ≡ length out
+  unfolding roomOf
+  size = ap length w ∙ over-length out 0 (fivesOf (runOf (length out / 5) s st)) (omega (arith, fives-length (runOf (length out / 5) s st), run-most (length out / 5) s st))
+
+  pub few : n < length written / 5 → length (runOf (roomOf out) s st) < roomOf out
+  unfolding roomOf
+  few h = omega (arith, size)
+
+  pub filled : length written / 5 ≤ n → length (runOf (roomOf out) s st) ≡ roomOf out
+  unfolding roomOf
+  filled h = omega (arith, size, run-most (length out / 5) s st)
+
+  pub in-room : 5 * n ≤ length written
+  unfolding roomOf
+  in-room = omega (arith, size, run-most (length out / 5) s st)
+
+pub enough : (rec written : List ℕ) (total n answers : ℕ) → n ≤ answers - total → total ≤ answers → 10 * answers ≤ length rec → 2 * length (take (5 * n) written) ≤ length (take (length rec - 10 * total) (drop (10 * total) rec))
+enough rec written total n answers a b h = omega (arith, length-take (5 * n) written, length-take (length rec - 10 * total) (drop (10 * total) rec), length-drop (10 * total) rec)
+
+pub room-some : (out first : List ℕ) → length out ≡ length first → 5 ≤ length first → 0 < roomOf out
+unfolding roomOf
+room-some out first e h = omega arith
+
+pub count-same : (total n answers : ℕ) {m : ℕ} → n ≡ m → total ≤ answers → eqb (total + n) answers ≡ eqb m (answers - total)
+count-same total n answers {m} e h = by (eqb m (answers - total)) refl where
+  by : (t : Bool) → eqb m (answers - total) ≡ t → eqb (total + n) answers ≡ eqb m (answers - total)
+  by true q = eq-eqb (total + n) answers (omega (arith, eqb-true m (answers - total) q)) ∙ sym q
+  by false q = ne-eqb (total + n) answers (λ z. eqb-false m (answers - total) q (omega arith)) ∙ sym q
+
+pub rest-on : (s : List ℕ) (st : IterState) (answers total n : ℕ) (rec : List ℕ) → agreesWith s st (answers - total - n) (drop (10 * n) (drop (10 * total) rec)) ≡ agreesWith s st (answers - (total + n)) (drop (10 * (total + n)) rec)
+rest-on s st answers total n rec =
+    let a : answers - total - n ≡ answers - (total + n) = omega arith in
+    let b : 10 * total + 10 * n ≡ 10 * (total + n) = omega arith in
+    rw (drop-drop (10 * n) (10 * total) rec, a, b)

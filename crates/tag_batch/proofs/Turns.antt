@@ -1,0 +1,212 @@
+-- What one turn of the batch's loop does: the whole batch is what was written so far, and the batch of what is left.
+use Prim.Native.Nat.{ℕ, zero, suc, _+_, _-_, _*_, _/_, _≤_, _<_}
+use mathlib.Core.Path.{_≡_, refl, sym, ap, _∙_}
+use mathlib.Core.Bool.{Bool, true, false}
+use mathlib.Core.List.{List, [], _∷_, _++_}
+use native.Mathlib.Omega.{arith}
+use lib.ListN.{length, getD}
+use lib.Dec.{eqb}
+use borrow.Author.Tests.{eq-eqb, ne-eqb}
+use Rattle.scan.specs.First.{pick}
+use Rattle.scan.specs.Lists.{over}
+use Rattle.scan.proofs.Lists.{over-length, over-none, over-more}
+use Rattle.tag_step.specs.declared.Answer.{Answer}
+use Rattle.tag_step.specs.declared.Answer.the-variants.{End, DoubleQ, SingleQ, Unquoted, Empty, ExpectedEq, ExpectedValue, UnquotedValue, ExpectedQuote, Duplicated, KeyTableFull, BadState}
+use Rattle.tag_step.specs.declared.IterState.{IterState}
+use Rattle.tag_step.specs.Numbers.{numbersOf}
+use Rattle.tag_step.specs.Run.{isEnd}
+use Rattle.tag_step.specs.declared.Place.{Place}
+use Rattle.tag_step.specs.declared.Outcome.{Outcome}
+use Rattle.tag_step.specs.declared.Stepped.{Stepped}
+use Rattle.tag_step.specs.declared.Stepped.the-variants as Stop
+use Rattle.tag_step.specs.Next.{lent, stepOf, lentState}
+use Rattle.tag_step.specs.Lent.{wholeNext, needsMore, steppedOf, taken, takenOn}
+use Rattle.tag_step.proofs.Lent.{made-held, made-answer, made-leaves, made-good, made-starts, made-ends, more-needs, more-starts, more-ends}
+use Rattle.tag_batch.specs.declared.Five.{Five}
+use Rattle.tag_batch.specs.declared.Batch.the-variants.{Read}
+use Rattle.tag_batch.specs.declared.Why.{Why}
+use Rattle.tag_batch.specs.declared.Why.the-variants.{OutFull, AtEnd, LendMore}
+use Rattle.tag_batch.specs.Batch.{fiveOf, listed, fivesOf, Ran, ran, ahead, ranOf, roomOf, Batched, batched, shownOf, readOf, Ripe}
+
+-- every answer is five numbers
+pub five-length : (a : Answer) → length (fiveOf a) ≡ 5
+unfolding fiveOf numbersOf
+five-length End = refl
+five-length (DoubleQ k v) = refl
+five-length (SingleQ k v) = refl
+five-length (Unquoted k v) = refl
+five-length (Empty k) = refl
+five-length (ExpectedEq p) = refl
+five-length (ExpectedValue l) = refl
+five-length (UnquotedValue p) = refl
+five-length (ExpectedQuote l q) = refl
+five-length (Duplicated this earlier) = refl
+five-length (KeyTableFull this) = refl
+five-length BadState = refl
+
+-- the end, and no other answer, has the number 0
+pub end-code : (a : Answer) → isEnd a ≡ eqb (getD (fiveOf a) 0 0) 0
+unfolding fiveOf numbersOf isEnd
+end-code End = refl
+end-code (DoubleQ k v) = refl
+end-code (SingleQ k v) = refl
+end-code (Unquoted k v) = refl
+end-code (Empty k) = refl
+end-code (ExpectedEq p) = refl
+end-code (ExpectedValue l) = refl
+end-code (UnquotedValue p) = refl
+end-code (ExpectedQuote l q) = refl
+end-code (Duplicated this earlier) = refl
+end-code (KeyTableFull this) = refl
+end-code BadState = refl
+
+-- as the code asks it
+pub code-end : (a : Answer) (x : Five) → listed x ≡ fiveOf a → x .code ≡ 0 → isEnd a ≡ true
+code-end a x e z = end-code a ∙ ap (λ (l : List ℕ). eqb (getD l 0 0) 0) (sym e) ∙ eq-eqb (x .code) 0 z
+
+pub code-other : (a : Answer) (x : Five) → listed x ≡ fiveOf a → (x .code ≡ 0 → ⊥) → isEnd a ≡ false
+code-other a x e z = end-code a ∙ ap (λ (l : List ℕ). eqb (getD l 0 0) 0) (sym e) ∙ ne-eqb (x .code) 0 z
+
+-- n answers stand at the front already, and these follow
+abbrev pub shownFrom : ℕ → List ℕ → Ran → Batched
+shownFrom n out x =
+    batched (Read (n + length (x .answers)) (x .state .place) (x .state .count) (x .why)) (x .state .starts) (x .state .ends)
+    (over out (5 * n) (fivesOf (x .answers)))
+
+shown-none : (n : ℕ) (out : List ℕ) (st : IterState) (why : Why) → shownFrom n out (ran [] st why) ≡ batched (Read n (st .place) (st .count) why) (st .starts) (st .ends) out
+unfolding fivesOf
+shown-none n out st why =
+    let e : n + 0 ≡ n = omega arith in
+    rw (e, over-none out (5 * n))
+
+shown-next : (n : ℕ) (out : List ℕ) (a : Answer) (x : Ran) → 5 * n + 5 ≤ length out → shownFrom n out (ahead a x) ≡ shownFrom (n + 1) (over out (5 * n) (fiveOf a)) x
+unfolding fivesOf
+shown-next n out a x room =
+    let five = five-length a in
+    let at : 5 * n + length (fiveOf a) ≡ 5 * (n + 1) = omega arith in
+    let many : n + suc (length (x .answers)) ≡ n + 1 + length (x .answers) = omega arith in
+    let text = over-more out (5 * n) (fiveOf a) (omega arith) (fivesOf (x .answers)) ∙ ap (λ (k : ℕ). over (over out (5 * n) (fiveOf a)) k (fivesOf (x .answers))) at in
+    rw (many, text)
+
+-- The loop's invariant. `whole` is the output at the start, `n` the answers written, `st` the state, `out` the output now.
+pub record Turn (s : List ℕ) (first : IterState) (whole : List ℕ) (n : ℕ) (st : IterState) (out : List ℕ) : Type 0 where
+  pub ripe : Ripe s st
+  pub size : length out ≡ length whole
+  pub fits : n ≤ roomOf whole
+  pub same : readOf s first whole ≡ shownFrom n out (ranOf (roomOf whole - n) s st)
+
+pub turn-first : (s : List ℕ) (st : IterState) (out : List ℕ) → Ripe s st → Turn s st out 0 st out
+unfolding readOf shownOf
+turn-first s st out r =
+    let e : roomOf out - 0 ≡ roomOf out = omega arith in
+    let z : 5 * 0 ≡ 0 = omega arith in
+    let m : 0 + length (ranOf (roomOf out) s st .answers) ≡ length (ranOf (roomOf out) s st .answers) = omega arith in
+    record { ripe = r; size = refl; fits = omega arith; same = rw (e, z, m) }
+
+-- room for an answer, and none
+room-more : (out : List ℕ) (n : ℕ) → 5 * n + 5 ≤ length out → n < roomOf out
+unfolding roomOf
+room-more out n h = omega arith
+
+pub room-fits : (out : List ℕ) (n : ℕ) → n ≤ roomOf out → 5 * n ≤ length out
+unfolding roomOf
+room-fits out n h = omega arith
+
+room-none : (out : List ℕ) (n : ℕ) → length out < 5 * n + 5 → n ≤ roomOf out → roomOf out - n ≡ 0
+unfolding roomOf
+room-none out n h l = omega arith
+
+-- a step
+module _ (s : List ℕ) (st : IterState) (m : ℕ) where
+  ran-more : needsMore s st ≡ true → ranOf (suc m) s st ≡ ran [] st LendMore
+  unfolding ranOf
+  ran-more h = rw h
+
+  module _ (held : needsMore s st ≡ false) (a : Answer) (after : IterState) (answer : wholeNext s st .answer ≡ a) (leaves : steppedOf s st ≡ after) where
+    ran-end : isEnd a ≡ true → ranOf (suc m) s st ≡ ran [] after AtEnd
+    unfolding ranOf
+    ran-end h = rw (held, answer, h, leaves)
+
+    ran-next : isEnd a ≡ false → ranOf (suc m) s st ≡ ahead a (ranOf m s after)
+    unfolding ranOf
+    ran-next h = rw (held, answer, h, leaves)
+
+module _ (s : List ℕ) (first : IterState) (whole : List ℕ) (n : ℕ) (st : IterState) (out : List ℕ) (t : Turn s first whole n st out) where
+  -- there is room for one answer more
+  module _ (room : 5 * n + 5 ≤ length out) where
+    more : roomOf whole - n ≡ suc (roomOf whole - (n + 1))
+    more = omega (arith, room-more whole n (omega (arith, t .size)))
+
+    went : (x : Ran) → ranOf (suc (roomOf whole - (n + 1))) s st ≡ x → readOf s first whole ≡ shownFrom n out x
+    went x e = t .same ∙ rw (more, e)
+
+    -- a key has no place: nothing is written, and this state is left
+    pub turn-short : needsMore s st ≡ true → batched (Read n (st .place) (st .count) LendMore) (st .starts) (st .ends) out ≡ readOf s first whole
+    turn-short h = sym (went (ran [] st LendMore) (ran-more s st (roomOf whole - (n + 1)) h) ∙ shown-none n out st LendMore)
+
+    module _ (held : needsMore s st ≡ false) (a : Answer) (after : IterState) (answer : wholeNext s st .answer ≡ a) (leaves : steppedOf s st ≡ after) where
+      -- the end: nothing is written, and the next state is left
+      pub turn-ends : isEnd a ≡ true → batched (Read n (after .place) (after .count) AtEnd) (after .starts) (after .ends) out ≡ readOf s first whole
+      turn-ends h = sym (went (ran [] after AtEnd) (ran-end s st (roomOf whole - (n + 1)) held a after answer leaves h) ∙ shown-none n out after AtEnd)
+
+      -- an answer: it is written, and the loop goes on
+      pub turn-next : isEnd a ≡ false → Ripe s after → Turn s first whole (n + 1) after (over out (5 * n) (fiveOf a))
+      turn-next h ripe =
+          let five = five-length a in
+          record {
+            ripe = ripe;
+            size = over-length out (5 * n) (fiveOf a) (omega arith) ∙ t .size;
+            fits = omega (arith, room-more whole n (omega (arith, t .size)));
+            same = went (ahead a (ranOf (roomOf whole - (n + 1)) s after)) (ran-next s st (roomOf whole - (n + 1)) held a after answer leaves h) ∙ shown-next n out a (ranOf (roomOf whole - (n + 1)) s after) room;
+          }
+
+  -- the output is full
+  pub turn-full : length out < 5 * n + 5 → batched (Read n (st .place) (st .count) OutFull) (st .starts) (st .ends) out ≡ readOf s first whole
+  unfolding ranOf
+  turn-full h =
+      let z = room-none whole n (omega (arith, t .size)) (t .fits) in
+      sym (t .same ∙ rw z (shown-none n out st OutFull))
+
+-- The same of what `step_in` has done.
+module _ (s : List ℕ) (first : IterState) (whole : List ℕ) (n : ℕ) (place : Place) (html checks : Bool) (starts ends : List ℕ) (count : ℕ) (out : List ℕ)
+    (t : Turn s first whole n (lentState place html checks starts ends count) out) (room : 5 * n + 5 ≤ length out)
+    (r : Stepped) (starts' ends' : List ℕ) (e : taken r starts' ends' count ≡ takenOn (lent starts ends count) (stepOf s html checks (lent starts ends count) place)) where
+  abbrev st : IterState
+  st = lentState place html checks starts ends count
+
+  pub goes-short : r ≡ Stop.LendMore → batched (Read n place count LendMore) starts' ends' out ≡ readOf s first whole
+  goes-short m =
+      let p = t .ripe in
+      rw (more-starts s place html checks starts ends count (p .starts) (p .ends) (p .good) r starts' ends' e m, more-ends s place html checks starts ends count (p .starts) (p .ends) (p .good) r starts' ends' e m)
+      (turn-short s first whole n st out t room (more-needs s place html checks starts ends count (p .starts) (p .ends) (p .good) r starts' ends' e m))
+
+  module _ (o : Outcome) (m : r ≡ Stop.Made o) where
+    abbrev after : IterState
+    after = lentState (o .place) html checks starts' ends' (o .count)
+
+    held : needsMore s st ≡ false
+    held = made-held s place html checks starts ends count (t .ripe .starts) (t .ripe .ends) (t .ripe .good) r starts' ends' e o m
+
+    answer : wholeNext s st .answer ≡ o .answer
+    answer = made-answer s place html checks starts ends count (t .ripe .starts) (t .ripe .ends) (t .ripe .good) r starts' ends' e o m
+
+    leaves : steppedOf s st ≡ after
+    leaves = made-leaves s place html checks starts ends count (t .ripe .starts) (t .ripe .ends) (t .ripe .good) r starts' ends' e o m
+
+    pub after-starts : length starts' ≡ length starts
+    after-starts = made-starts s place html checks starts ends count (t .ripe .starts) (t .ripe .ends) (t .ripe .good) r starts' ends' e o m
+
+    pub after-ends : length ends' ≡ length ends
+    after-ends = made-ends s place html checks starts ends count (t .ripe .starts) (t .ripe .ends) (t .ripe .good) r starts' ends' e o m
+
+    pub goes-end : isEnd (o .answer) ≡ true → batched (Read n (o .place) (o .count) AtEnd) starts' ends' out ≡ readOf s first whole
+    goes-end h = turn-ends s first whole n st out t room held (o .answer) after answer leaves h
+
+    pub goes-on : isEnd (o .answer) ≡ false → Turn s first whole (n + 1) after (over out (5 * n) (fiveOf (o .answer)))
+    goes-on h =
+        turn-next s first whole n st out t room held (o .answer) after answer leaves h
+        (record {
+          good = made-good s place html checks starts ends count (t .ripe .starts) (t .ripe .ends) (t .ripe .good) r starts' ends' e o m;
+          starts = omega (arith, after-starts, t .ripe .starts);
+          ends = omega (arith, after-ends, t .ripe .ends);
+        })

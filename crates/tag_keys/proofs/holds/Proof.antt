@@ -1,0 +1,13 @@
+-- `tag_keys::holds` meets its contract: the starts first, then the ends.
+use borrow.Author.Tests.{le-leb, lt-leb}
+use Rattle.tag_keys.proofs.holds.Statement.{statement}
+use Rattle.tag_keys.proofs.holds.Tie as tie
+
+returns : tie.Need-returns
+returns c = rw (lt-leb _ _ (c .if1 .taken))
+
+returns-2 : tie.Need-returns-2
+returns-2 c = rw (le-leb _ _ (c .if1 .left))
+
+pub holds-spec : {M : Type 1} → statement M
+holds-spec = tie.close (tie.spec returns returns-2)

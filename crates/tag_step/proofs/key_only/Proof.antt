@@ -1,0 +1,100 @@
+-- `tag_step::key_only` meets its contract: one law for the mode, and one for each verdict; a new key is recorded where the tables hold it.
+use mathlib.Core.Path.{refl, sym, _∙_}
+use borrow.Author.Tests.{not-true, not-false}
+use Rattle.tag_keys.proofs.Laws.{fresh-place}
+use Rattle.tag_step.proofs.Whole.{bare-xml, bare-fresh, bare-same, bare-full}
+use Rattle.tag_step.proofs.Taken.{written-fresh, written-same, written-full, took, took-same, bare-untaken}
+use borrow.Author.Needs.{needs}
+use Rattle.tag_step.proofs.key_only.Statement.{statement}
+use Rattle.tag_step.proofs.key_only.Tie as tie
+use Rattle.tag_step.proofs.key_only.Reads as reads
+use Rattle.tag_step.proofs.key_only.Lts as lts
+use Rattle.tag_step.proofs.place_at.Reads as place-at-reads
+use Rattle.tag_keys.proofs.check_for_duplicates.Reads as check-for-duplicates-reads
+use Rattle.tag_keys.proofs.holds.Reads as holds-reads
+use Rattle.tag_keys.proofs.record_key.Reads as record-key-reads
+
+place-at-requires : tie.Need-place-at-requires
+place-at-requires c κs = search needs
+
+returns : tie.Need-returns
+returns c = took-same _ _ (c .before .before .before .before .before .pre .0) _ _ (bare-xml _ _ _ _ _ _ (not-true _ (c .if1 .taken)) _ (c .before .place-at .ensures)) refl
+
+check-for-duplicates-requires : tie.Need-check-for-duplicates-requires
+check-for-duplicates-requires c κs = search needs
+
+enum-known-more : tie.Need-enum-known-more
+enum-known-more c = search needs
+
+holds-requires : tie.Need-holds-requires
+holds-requires c κs = search needs
+
+same-length : tie.Need-same-length
+same-length c = search needs
+
+same-length-2 : tie.Need-same-length-2
+same-length-2 c = search needs
+
+returns-2 : tie.Need-returns-2
+returns-2 c = bare-untaken _ _ _ _ _ _ _ _ _ (sym (c .before .before .before .before .before .before .before .check-for-duplicates .ensures) ∙ c .before .before .before .before .before .more .given .1) (sym (c .before .holds .ensures) ∙ not-true _ (c .if2 .taken)) (not-false _ (c .before .before .before .before .before .before .before .before .before .before .if1 .left))
+
+record-key-requires : tie.Need-record-key-requires
+record-key-requires c κs = fresh-place _ _ _ _ _ _ _ _ (sym (c .before .before .before .before .before .before .before .before .before .check-for-duplicates .ensures) ∙ c .before .before .before .before .before .before .before .more .given .1) (sym (c .before .before .before .holds .ensures) ∙ not-false _ (c .before .before .if2 .left))
+
+enum-known-earlier : tie.Need-enum-known-earlier
+enum-known-earlier c = search needs
+
+enum-told : tie.Need-enum-told
+enum-told c = search needs
+
+same-length-3 : tie.Need-same-length-3
+same-length-3 c = search needs
+
+same-length-4 : tie.Need-same-length-4
+same-length-4 c = search needs
+
+returns-3 : tie.Need-returns-3
+returns-3 c = took _ _ _ (bare-fresh _ _ _ _ _ _ _ _ _ _ _ (c .before .before .before .before .before .before .before .before .before .before .before .before .before .before .check-for-duplicates .ensures) (written-fresh _ _ _ _ _ _ (c .before .before .before .before .before .before .before .before .before .before .before .before .more .given .1) (c .before .before .before .before .record-key .ensures .0)) (written-fresh _ _ _ _ _ _ (c .before .before .before .before .before .before .before .before .before .before .before .before .more .given .1) (c .before .before .before .before .record-key .ensures .1)) (not-false _ (c .before .before .before .before .before .before .before .before .before .before .before .before .before .before .before .before .before .if1 .left)) _ (c .before .before .before .before .before .before .before .before .before .before .before .before .before .before .before .before .before .before .place-at .ensures) _ (c .before .before .before .before .before .before .before .before .before .before .before .before .more .given .1)) (sym (c .before .before .before .before .before .before .before .before .holds .ensures) ∙ not-false _ (c .before .before .before .before .before .before .before .if2 .left))
+
+same-length-5 : tie.Need-same-length-5
+same-length-5 c = search needs
+
+same-length-6 : tie.Need-same-length-6
+same-length-6 c = search needs
+
+returns-4 : tie.Need-returns-4
+returns-4 c = took-same _ _ (c .before .before .before .before .before .before .before .before .before .before .before .pre .0) _ _ (bare-same _ _ _ _ _ _ _ _ _ _ _ (c .before .before .before .check-for-duplicates .ensures) (written-same _ _ _ _ _ _ (c .before .earlier .given .1)) (written-same _ _ _ _ _ _ (c .before .earlier .given .1)) (not-false _ (c .before .before .before .before .before .before .if1 .left)) _ (c .before .before .before .before .before .before .before .place-at .ensures) _ (c .before .earlier .given .1)) refl
+
+same-length-7 : tie.Need-same-length-7
+same-length-7 c = search needs
+
+same-length-8 : tie.Need-same-length-8
+same-length-8 c = search needs
+
+returns-5 : tie.Need-returns-5
+returns-5 c = took-same _ _ (c .before .before .before .before .before .before .before .before .before .before .pre .0) _ _ (bare-full _ _ _ _ _ _ _ _ _ _ _ (c .before .before .check-for-duplicates .ensures) (written-full _ _ _ _ _ (c .enum-told .given .1)) (written-full _ _ _ _ _ (c .enum-told .given .1)) (not-false _ (c .before .before .before .before .before .if1 .left)) _ (c .before .before .before .before .before .before .place-at .ensures) (c .enum-told .given .1)) refl
+
+pub key-only-spec : {M : Type 1} → statement M
+key-only-spec =
+    tie.close
+    (tie.spec
+    place-at-requires
+    returns
+    check-for-duplicates-requires
+    enum-known-more
+    holds-requires
+    same-length
+    same-length-2
+    returns-2
+    record-key-requires
+    enum-known-earlier
+    enum-told
+    same-length-3
+    same-length-4
+    returns-3
+    same-length-5
+    same-length-6
+    returns-4
+    same-length-7
+    same-length-8
+    returns-5)

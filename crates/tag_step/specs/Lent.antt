@@ -1,0 +1,64 @@
+-- Key tables that a caller lends may be shorter than the capacity: places that are not lent are unused. Every rule is document
+-- 01's on the iterator that such tables are; a key that is due to be recorded past what is lent is not read, and the caller
+-- lends longer tables, with the recorded keys in their places, and goes on where it stopped.
+use Prim.Native.Nat.{ℕ, _-_}
+use mathlib.Core.Bool.{Bool, not}
+use mathlib.Core.List.{List, _++_}
+use lib.ListN.{length, take, replicate}
+use Rattle.scan.specs.First.{pick}
+use Rattle.tag_keys.specs.Keys.{capacity, holds}
+use Rattle.tag_step.specs.declared.IterState.{IterState}
+use Rattle.tag_step.specs.declared.Step.{Step}
+use Rattle.tag_step.specs.declared.Stepped.{Stepped}
+use Rattle.tag_step.specs.declared.Stepped.the-variants.{Made, LendMore}
+use Rattle.tag_step.specs.declared.Span.{Span}
+use Rattle.tag_step.specs.declared.Place.{Place}
+use Rattle.tag_step.specs.Next.{Keys, Reading, lent, made, bareOf, valuedOf, stepOf, lentState, badReading, leaves, nextOf}
+
+-- What stands in an unused place is never read, so that any content would do for those that are not lent: zeros, as 7 leaves
+-- them.
+unfoldable pub padKeys : List ℕ → List ℕ
+padKeys t = t ++ replicate (capacity - length t) 0
+
+-- the iterator that lent tables are
+unfoldable pub wholeOf : IterState → IterState
+wholeOf st =
+    lentState (st .place) (st .html) (st .«check_duplicates») (padKeys (st .starts)) (padKeys (st .ends)) (st .count)
+
+-- Its step. Tables of unequal lengths count as long as the shorter one, and a count past that is 7.
+unfoldable pub wholeNext : List ℕ → IterState → Step
+wholeNext s st = pick (holds (st .starts) (st .ends) (st .count)) (nextOf s (wholeOf st)) (leaves st badReading)
+
+-- It records a key past what is lent. Refusals never do, nor does any step while checks are off.
+unfoldable pub needsMore : List ℕ → IterState → Bool
+needsMore s st = not (holds (st .starts) (st .ends) (wholeNext s st .state .count))
+
+-- what it leaves of the lent tables
+unfoldable pub steppedOf : List ℕ → IterState → IterState
+steppedOf s st =
+    let y = wholeNext s st .state in
+    lentState (y .place) (y .html) (y .«check_duplicates») (take (length (st .starts)) (y .starts))
+    (take (length (st .ends)) (y .ends)) (y .count)
+
+-- What a step on lent tables does: it is taken, or is not, and then the tables stay as they were.
+pub data Taken : Type 0 where
+  Took : Reading → Taken
+  Short : Keys → Taken
+
+abbrev pub taken : Stepped → (starts ends : List ℕ) → ℕ → Taken
+taken (Made o) starts ends count = Took (made o starts ends)
+taken LendMore starts ends count = Short (lent starts ends count)
+
+-- A step that leaves more keys than the tables hold is not taken.
+unfoldable pub takenOn : Keys → Reading → Taken
+takenOn keys x = pick (holds (keys .starts) (keys .ends) (x .keys .count)) (Took x) (Short keys)
+
+abbrev pub bareIn : List ℕ → Bool → Bool → Keys → Span → ℕ → Taken
+bareIn s html checks keys key at = takenOn keys (bareOf s html checks keys key at)
+
+abbrev pub valuedIn : List ℕ → Bool → Bool → Keys → Span → ℕ → Taken
+valuedIn s html checks keys key eq = takenOn keys (valuedOf s html checks keys key eq)
+
+-- the step on lent tables (`lent-steps`, proofs/Lent: of the iterator that they are)
+abbrev pub stepIn : List ℕ → Bool → Bool → Keys → Place → Taken
+stepIn s html checks keys place = takenOn keys (stepOf s html checks keys place)

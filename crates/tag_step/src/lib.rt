@@ -1,0 +1,617 @@
+// The attribute iterator over the bytes of a start tag.
+//
+// Ports `IterState` of src/events/attributes.rs, with `with_checks` of `Attributes`. What it answers is `nextOf` of
+// specs/Next.antt, for every tag and every state. The work is done on tables that the caller lends (`step_lent`, and
+// `next_lent` with the test of refusal 7 before it); `IterState::next` lends its own.
+//
+// The names are the crate's. Its `keys: Vec<Range<usize>>` is two tables and a count here, its `Option` and `Result` an
+// enum for each kind of answer. Documents number the refusals: `numbersOf` (specs/Numbers.antt) gives an answer's number
+// and values.
+ghost use mathlib.Core.Path.{_≡_};
+ghost use mathlib.Core.Bool.{true};
+ghost use Prim.Native.Nat.{_+_, _^_, _<_, _≤_};
+ghost use lib.ListN.{length, replicate};
+ghost use Rattle.tag_step.specs.Read.{isQuote, skipOf, skipEqValueOf, recoverOf, keyAt, closedOf, quotedOf, valueAt};
+ghost use Rattle.tag_step.specs.Next.{Stands, Ready, lent, made, placeAt, placeGood, goodOf, stepOf, lentGood, nextIn, nextOf, uncheckedOf, opened, withChecks};
+ghost use Rattle.tag_step.specs.Lent.{taken, bareIn, valuedIn, stepIn};
+ghost use Rattle.tag_keys.specs.Keys.{KeysIn};
+use tag_keys::CAPACITY;
+use tag_keys::Checked;
+
+// Where a key or a value stands in the tag: `Range<usize>` of the crate, the end not included.
+pub struct Span {
+    pub start: usize,
+    pub end: usize,
+}
+
+// Where reading goes on: `State` of the crate.
+pub enum Place {
+    // Reading has ended.
+    Done,
+    // The next key is looked for from here.
+    Next(usize),
+    // After refusal 3: the value that begins here is passed over first.
+    SkipValue(usize),
+    // After refusal 5 of a key with a value: the `=` here and its value are passed over first.
+    SkipEqValue(usize),
+}
+
+// One answer: an attribute (`Attr`), a refusal (`AttrError`), or the end (`None`). Each case with an input that gives it.
+pub enum Answer {
+    // Nothing is left.
+    End,
+    // `key="value"`: the key, and the value without its quotes.
+    DoubleQ(Span, Span),
+    // `key='value'`.
+    SingleQ(Span, Span),
+    // `key=value`, in HTML mode.
+    Unquoted(Span, Span),
+    // `key` with no value, in HTML mode.
+    Empty(Span),
+    // 1: `key key2="v"` where `key2` begins; reading goes on there.
+    ExpectedEq(usize),
+    // 2: `key=` and no more: the tag's length.
+    ExpectedValue(usize),
+    // 3: `key=value` where the value begins, in XML mode; reading goes on at the next whitespace.
+    UnquotedValue(usize),
+    // 4: `key="value` and no more: the tag's length, and the byte of the quote that is missing, as a number like the rest.
+    ExpectedQuote(usize, usize),
+    // 5: `key="1" key="2"`: where this key and the earlier one begin; reading goes on at the first whitespace after the
+    // `=`, also where it stands in the value.
+    Duplicated(usize, usize),
+    // 6: 256 keys are recorded, and another one is due: where it begins.
+    KeyTableFull(usize),
+    // 7: a state that no reading of this tag leaves.
+    BadState,
+}
+
+// The state of an iterator: `IterState` of the crate. The recorded keys are the first `count` of `starts` and `ends`.
+pub struct IterState {
+    pub place: Place,
+    pub html: bool,
+    pub check_duplicates: bool,
+    pub starts: [usize; CAPACITY],
+    pub ends: [usize; CAPACITY],
+    pub count: usize,
+}
+
+// An answer, and the state that it leaves.
+pub struct Step {
+    pub answer: Answer,
+    pub state: IterState,
+}
+
+// Where the search for the next key begins: the `Option<usize>` that the crate's `recover` gives.
+pub enum Start {
+    From(usize),
+    Ended,
+}
+
+// What stands where a key is looked for: none, a key with no `=` after it and the place of what follows, or a key and
+// the place of its `=`.
+pub enum KeyRead {
+    NoKey,
+    Bare(Span, usize),
+    Valued(Span, usize),
+}
+
+// What a value or a bare key gives: an answer, and the place that it leaves.
+pub struct Found {
+    pub answer: Answer,
+    pub place: Place,
+}
+
+// What a step on lent tables makes: the answer, the place that it leaves, and how many keys are recorded.
+pub struct Outcome {
+    pub answer: Answer,
+    pub place: Place,
+    pub count: usize,
+}
+
+// What a step on tables of any length gives.
+pub enum Stepped {
+    Made(Outcome),
+    // The next key is due to be recorded, and no place is lent for it: nothing is changed. The caller lends longer tables,
+    // with the recorded keys in their places, and goes on.
+    LendMore,
+}
+
+// Whether a byte opens a quoted value.
+fn is_quote(b: u8) -> bool
+    ensures { λ r. ⌜ r ≡ isQuote b ⌝ }
+{
+    if b == b'"' {
+        return true;
+    }
+    b == b'\''
+}
+
+// Passes over a value: `IterState::skip_value`.
+//
+//     key  =  value  next
+//             |    ^
+//        offset    the answer
+fn skip_value(tag: &[u8], offset: usize) -> Start
+    ensures { λ r. ⌜ r ≡ skipOf (now (tag .entry)) offset ⌝ }
+{
+    let e = scan::whitespace_from(tag, offset);
+    if e < tag.len() {
+        return Start::From(e);
+    }
+    Start::Ended
+}
+
+// Passes over what stands at `offset` after whitespace: `IterState::skip_eq_value`. From a quote it goes to the next
+// one of its kind; but what stands at a place of the iterator is the `=`, and that is no quote: so that search is the
+// plain one, and the fast one has one caller and is compiled into it.
+//
+//     key  =  "value"  next
+//          |        ^
+//     offset        not this: the answer is the whitespace after it
+fn skip_eq_value(tag: &[u8], offset: usize) -> Start
+    ensures { λ r. ⌜ r ≡ skipEqValueOf (now (tag .entry)) offset ⌝ }
+{
+    let x = scan::content_from(tag, offset);
+    if x >= tag.len() {
+        return Start::Ended;
+    }
+    let quote = tag[x];
+    if !is_quote(quote) {
+        return skip_value(tag, x);
+    }
+    let e = scan::byte_by_bytes(tag, x + 1, quote);
+    if e < tag.len() {
+        return Start::From(e);
+    }
+    Start::Ended
+}
+
+// Where the search for the next key begins, after what the last answer left: `IterState::recover`.
+fn recover(tag: &[u8], place: Place) -> Start
+    requires { ⌜ placeGood (now tag) place ≡ true ⌝ }
+    ensures { λ r. ⌜ r ≡ recoverOf (now (tag .entry)) place ⌝ }
+{
+    match place {
+        Place::Done => Start::Ended,
+        Place::Next(offset) => {
+            if offset <= tag.len() {
+                return Start::From(offset);
+            }
+            Start::Ended
+        }
+        Place::SkipValue(offset) => skip_value(tag, offset),
+        Place::SkipEqValue(offset) => skip_eq_value(tag, offset),
+    }
+}
+
+// The key at or after `from`, and what follows it: the first half of `IterState::next`.
+//
+//        key  =  value           key  x            key
+//     |  |  | ^               |  |  | ^         |  |  ^
+//  from  s  e  at          from  s  e  at    from  s  e, at: the length
+fn read_key(tag: &[u8], from: usize) -> KeyRead
+    ensures { λ r. ⌜ r ≡ keyAt (now (tag .entry)) from ⌝ }
+{
+    let start = scan::content_from(tag, from);
+    if start >= tag.len() {
+        return KeyRead::NoKey;
+    }
+    let end = scan::key_end_from(tag, start + 1);
+    let at = scan::content_from(tag, end);
+    let key = Span {
+        start: start,
+        end: end,
+    };
+    if at >= tag.len() {
+        return KeyRead::Bare(key, at);
+    }
+    if tag[at] == b'=' {
+        return KeyRead::Valued(key, at);
+    }
+    KeyRead::Bare(key, at)
+}
+
+// An attribute in `"`: `IterState::double_q`. Reading goes on after the closing quote.
+fn double_q(key: Span, value: Span) -> Found
+    requires { ⌜ value .end + 1 < 2 ^ 64 ⌝ }
+    ensures { λ r. ⌜ r ≡ closedOf 34 key value ⌝ }
+{
+    Found {
+        answer: Answer::DoubleQ(key, value),
+        place: Place::Next(value.end + 1),
+    }
+}
+
+// An attribute in `'`: `IterState::single_q`.
+fn single_q(key: Span, value: Span) -> Found
+    requires { ⌜ value .end + 1 < 2 ^ 64 ⌝ }
+    ensures { λ r. ⌜ r ≡ closedOf 39 key value ⌝ }
+{
+    Found {
+        answer: Answer::SingleQ(key, value),
+        place: Place::Next(value.end + 1),
+    }
+}
+
+fn wide(b: u8) -> usize
+    ensures { λ r. ⌜ r ≡ b ⌝ }
+{
+    b as usize
+}
+
+// The value in the quotes `quote` that begins at `from`: the end of `IterState::next`.
+//
+//     key = "value" next
+//            |    ^
+//         from    the same quote
+fn read_quoted(tag: &[u8], quote: u8, key: Span, from: usize) -> Found
+    ensures { λ r. ⌜ r ≡ quotedOf (now (tag .entry)) quote key from ⌝ }
+{
+    let e = scan::byte_from(tag, from, quote);
+    if e >= tag.len() {
+        return Found {
+            answer: Answer::ExpectedQuote(tag.len(), wide(quote)),
+            place: Place::Done,
+        };
+    }
+    let value = Span {
+        start: from,
+        end: e,
+    };
+    if quote == b'"' {
+        return double_q(key, value);
+    }
+    single_q(key, value)
+}
+
+// The value after the `=` at `eq`: the second half of `IterState::next`.
+//
+//     key =  "value"      key =  value next      key =
+//         |  ^                |  ^    ^              |  ^
+//        eq  v               eq  v    e             eq  v: the length
+fn read_value(tag: &[u8], html: bool, key: Span, eq: usize) -> Found
+    requires { ⌜ eq < length (now tag) ⌝ }
+    ensures { λ r. ⌜ r ≡ valueAt (now (tag .entry)) html key eq ⌝ }
+{
+    let v = scan::content_from(tag, eq + 1);
+    if v >= tag.len() {
+        return Found {
+            answer: Answer::ExpectedValue(tag.len()),
+            place: Place::Done,
+        };
+    }
+    let b = tag[v];
+    if is_quote(b) {
+        return read_quoted(tag, b, key, v + 1);
+    }
+    if html {
+        let e = scan::whitespace_from(tag, v);
+        return Found {
+            answer: Answer::Unquoted(key, Span { start: v, end: e }),
+            place: Place::Next(e),
+        };
+    }
+    Found {
+        answer: Answer::UnquotedValue(v),
+        place: Place::SkipValue(v),
+    }
+}
+
+// Where a bare key leaves the reading: at what follows it, or done.
+fn place_at(tag: &[u8], at: usize) -> Place
+    ensures { λ r. ⌜ r ≡ placeAt (now (tag .entry)) at ⌝ }
+{
+    if at < tag.len() {
+        return Place::Next(at);
+    }
+    Place::Done
+}
+
+// Whether a place is one that reading this tag leaves.
+fn place_good(tag: &[u8], place: Place) -> bool
+    ensures { λ r. ⌜ r ≡ placeGood (now (tag .entry)) place ⌝ }
+{
+    match place {
+        Place::Done => true,
+        Place::Next(_) => true,
+        Place::SkipValue(offset) => offset < tag.len(),
+        Place::SkipEqValue(offset) => {
+            if offset >= tag.len() {
+                return false;
+            }
+            tag[offset] == b'='
+        }
+    }
+}
+
+// Whether lent tables and a place are what reading this tag leaves; refusal 7 is for the others.
+pub fn good_in<'a>(
+    tag: &[u8],
+    starts: &'a [usize],
+    ends: &'a [usize],
+    count: usize,
+    place: Place,
+) -> bool
+    ensures { λ r. ⌜ r ≡ goodOf (now (tag .entry)) (lent (now (starts .entry)) (now (ends .entry)) count) place ⌝ }
+{
+    if !tag_keys::keys_good(tag.len(), starts, ends, count) {
+        return false;
+    }
+    place_good(tag, place)
+}
+
+// The same of tables that have to be of full size while checks are on.
+pub fn state_good<'a>(
+    tag: &[u8],
+    starts: &'a [usize],
+    ends: &'a [usize],
+    checks: bool,
+    count: usize,
+    place: Place,
+) -> bool
+    ensures { λ r. ⌜ r ≡ lentGood (now (tag .entry)) checks (lent (now (starts .entry)) (now (ends .entry)) count) place ⌝ }
+{
+    if !good_in(tag, starts, ends, count, place) {
+        return false;
+    }
+    if !checks {
+        return true;
+    }
+    if starts.len() < CAPACITY {
+        return false;
+    }
+    CAPACITY <= ends.len()
+}
+
+// A key with no value: `IterState::key_only`. HTML mode checks it as any other; XML mode refuses it and does not.
+//
+//     key  key2="v"
+//     |  | ^
+//      key offset
+fn key_only<'a>(
+    tag: &[u8],
+    starts: &'a mut [usize],
+    ends: &'a mut [usize],
+    html: bool,
+    checks: bool,
+    count: usize,
+    key: Span,
+    offset: usize,
+) -> Stepped
+    requires { ⌜ KeysIn (now starts) (now ends) count (length (now tag)) ⌝ }
+    requires { ⌜ (key .start < key .end) × (key .end ≤ length (now tag)) ⌝ }
+    ensures { λ r. ⌜ taken r (now (starts .exit)) (now (ends .exit)) count ≡ bareIn (now (tag .entry)) html checks (lent (now (starts .entry)) (now (ends .entry)) count) key offset ⌝ }
+{
+    let place = place_at(tag, offset);
+    if !html {
+        return Stepped::Made(Outcome {
+            answer: Answer::ExpectedEq(offset),
+            place: place,
+            count: count,
+        });
+    }
+    match tag_keys::check_for_duplicates(tag, starts, ends, checks, count, key.start, key.end) {
+        Checked::Fresh(more) => {
+            if !tag_keys::holds(starts, ends, more) {
+                return Stepped::LendMore;
+            }
+            tag_keys::record_key(starts, ends, checks, count, key.start, key.end);
+            Stepped::Made(Outcome {
+                answer: Answer::Empty(key),
+                place: place,
+                count: more,
+            })
+        }
+        Checked::Same(earlier) => Stepped::Made(Outcome {
+            answer: Answer::Duplicated(key.start, earlier),
+            place: place,
+            count: count,
+        }),
+        Checked::Full => Stepped::Made(Outcome {
+            answer: Answer::KeyTableFull(key.start),
+            place: Place::Done,
+            count: count,
+        }),
+    }
+}
+
+// A key whose `=` stands at `eq`: it is checked and recorded before its value is looked at. From `IterState::next`.
+fn key_valued<'a>(
+    tag: &[u8],
+    starts: &'a mut [usize],
+    ends: &'a mut [usize],
+    html: bool,
+    checks: bool,
+    count: usize,
+    key: Span,
+    eq: usize,
+) -> Stepped
+    requires { ⌜ KeysIn (now starts) (now ends) count (length (now tag)) ⌝ }
+    requires { ⌜ (key .start < key .end) × (key .end ≤ length (now tag)) ⌝ }
+    requires { ⌜ eq < length (now tag) ⌝ }
+    ensures { λ r. ⌜ taken r (now (starts .exit)) (now (ends .exit)) count ≡ valuedIn (now (tag .entry)) html checks (lent (now (starts .entry)) (now (ends .entry)) count) key eq ⌝ }
+{
+    match tag_keys::check_for_duplicates(tag, starts, ends, checks, count, key.start, key.end) {
+        Checked::Fresh(more) => {
+            if !tag_keys::holds(starts, ends, more) {
+                return Stepped::LendMore;
+            }
+            tag_keys::record_key(starts, ends, checks, count, key.start, key.end);
+            let value = read_value(tag, html, key, eq);
+            let answer = value.answer;
+            let place = value.place;
+            Stepped::Made(Outcome {
+                answer: answer,
+                place: place,
+                count: more,
+            })
+        }
+        Checked::Same(earlier) => Stepped::Made(Outcome {
+            answer: Answer::Duplicated(key.start, earlier),
+            place: Place::SkipEqValue(eq),
+            count: count,
+        }),
+        Checked::Full => Stepped::Made(Outcome {
+            answer: Answer::KeyTableFull(key.start),
+            place: Place::Done,
+            count: count,
+        }),
+    }
+}
+
+// One step on lent tables of any length, of a state that is good: `IterState::next`. Nothing is copied, so whoever reads a
+// whole tag tests the state once and calls this.
+pub fn step_in<'a>(
+    tag: &[u8],
+    starts: &'a mut [usize],
+    ends: &'a mut [usize],
+    html: bool,
+    checks: bool,
+    count: usize,
+    place: Place,
+) -> Stepped
+    requires { ⌜ Stands (now tag) (lent (now starts) (now ends) count) place ⌝ }
+    ensures { λ r. ⌜ taken r (now (starts .exit)) (now (ends .exit)) count ≡ stepIn (now (tag .entry)) html checks (lent (now (starts .entry)) (now (ends .entry)) count) place ⌝ }
+{
+    let Start::From(from) = recover(tag, place) else {
+        return Stepped::Made(Outcome {
+            answer: Answer::End,
+            place: place,
+            count: count,
+        });
+    };
+    match read_key(tag, from) {
+        KeyRead::NoKey => Stepped::Made(Outcome {
+            answer: Answer::End,
+            place: Place::Done,
+            count: count,
+        }),
+        KeyRead::Bare(key, at) => key_only(tag, starts, ends, html, checks, count, key, at),
+        KeyRead::Valued(key, eq) => key_valued(tag, starts, ends, html, checks, count, key, eq),
+    }
+}
+
+// The same on tables with room for every key, which never lack a place.
+pub fn step_lent<'a>(
+    tag: &[u8],
+    starts: &'a mut [usize],
+    ends: &'a mut [usize],
+    html: bool,
+    checks: bool,
+    count: usize,
+    place: Place,
+) -> Outcome
+    requires { ⌜ Ready (now tag) checks (lent (now starts) (now ends) count) place ⌝ }
+    ensures { λ r. ⌜ made r (now (starts .exit)) (now (ends .exit)) ≡ stepOf (now (tag .entry)) html checks (lent (now (starts .entry)) (now (ends .entry)) count) place ⌝ }
+{
+    let step = step_in(tag, starts, ends, html, checks, count, place);
+    match step {
+        Stepped::Made(made) => made,
+        Stepped::LendMore => Outcome {
+            answer: Answer::BadState,
+            place: place,
+            count: count,
+        },
+    }
+}
+
+// One step with checks off, which neither compares nor records a key, and so wants no tables: what a reader calls that takes
+// every attribute as it comes.
+pub fn step_unchecked(tag: &[u8], html: bool, place: Place) -> Found
+    requires { ⌜ placeGood (now tag) place ≡ true ⌝ }
+    ensures { λ r. ⌜ r ≡ uncheckedOf (now (tag .entry)) html place ⌝ }
+{
+    let mut starts = [0usize; 0];
+    let mut ends = [0usize; 0];
+    let made = step_lent(tag, &mut starts, &mut ends, html, false, 0, place);
+    let answer = made.answer;
+    let left = made.place;
+    Found {
+        answer: answer,
+        place: left,
+    }
+}
+
+// Sets every place of a table to zero, used or not: what refusal 7 leaves.
+pub fn clear(table: &mut [usize])
+    ensures { λ _. ⌜ now (table .exit) ≡ replicate (length (now (table .entry))) 0 ⌝ }
+{
+    let mut i = 0;
+    while i < table.len() {
+        table[i] = 0;
+        i += 1;
+    }
+}
+
+// One step on lent tables, whatever they hold: refusal 7 comes first.
+pub fn next_lent<'a>(
+    tag: &[u8],
+    starts: &'a mut [usize],
+    ends: &'a mut [usize],
+    html: bool,
+    checks: bool,
+    count: usize,
+    place: Place,
+) -> Outcome
+    ensures { λ r. ⌜ made r (now (starts .exit)) (now (ends .exit)) ≡ nextIn (now (tag .entry)) html checks (lent (now (starts .entry)) (now (ends .entry)) count) place ⌝ }
+{
+    if !state_good(tag, starts, ends, checks, count, place) {
+        clear(starts);
+        clear(ends);
+        return Outcome {
+            answer: Answer::BadState,
+            place: Place::Done,
+            count: 0,
+        };
+    }
+    step_lent(tag, starts, ends, html, checks, count, place)
+}
+
+impl IterState {
+    // An iterator that is opened at `offset`, with checks on.
+    pub fn new(offset: usize, html: bool) -> Self
+        ensures { λ r. ⌜ r ≡ opened offset html true ⌝ }
+    {
+        Self {
+            place: Place::Next(offset),
+            html: html,
+            check_duplicates: true,
+            starts: [0; CAPACITY],
+            ends: [0; CAPACITY],
+            count: 0,
+        }
+    }
+
+    // Sets whether keys are checked and recorded: `Attributes::with_checks`.
+    pub fn with_checks(mut self, checks: bool) -> Self
+        ensures { λ r. ⌜ r ≡ withChecks checks self ⌝ }
+    {
+        self.check_duplicates = checks;
+        self
+    }
+
+    // One answer, and the state after it: `IterState::next`, for any state whatever.
+    pub fn next(self, tag: &[u8]) -> Step
+        ensures { λ r. ⌜ r ≡ nextOf (now (tag .entry)) self ⌝ }
+    {
+        let html = self.html;
+        let checks = self.check_duplicates;
+        let mut starts = self.starts;
+        let mut ends = self.ends;
+        let place = self.place;
+        let made = next_lent(tag, &mut starts, &mut ends, html, checks, self.count, place);
+        let answer = made.answer;
+        let left = made.place;
+        Step {
+            answer: answer,
+            state: IterState {
+                place: left,
+                html: html,
+                check_duplicates: checks,
+                starts: starts,
+                ends: ends,
+                count: made.count,
+            },
+        }
+    }
+}
