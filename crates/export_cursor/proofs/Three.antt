@@ -8,18 +8,7 @@ use lib.ListN.{length, set}
 use lib.Dec.{eqb}
 use borrow.Author.Tests.{eq-eqb, ne-eqb}
 use Rattle.tag_step.specs.declared.Place.{Place}
-use Rattle.export_cursor.specs.Cursor.{kindOf, positionOf, threeOf, samePlace, settledOf}
-
-three-put : (t : List ℕ) (a b c : ℕ) → length t ≡ 3 → set (set (set t 0 a) 1 b) 2 c ≡ a ∷ b ∷ c ∷ []
-three-put [] a b c h = absurd (omega arith)
-three-put (x ∷ []) a b c h = absurd (omega arith)
-three-put (x ∷ y ∷ []) a b c h = absurd (omega arith)
-three-put (x ∷ y ∷ z ∷ []) a b c h = refl
-three-put (x ∷ y ∷ z ∷ w ∷ t) a b c h = absurd (omega arith)
-
-pub three-left : (t : List ℕ) (place : Place) (kind position recorded : ℕ) → length t ≡ 3 → kind ≡ kindOf place → position ≡ positionOf place → set (set (set t 0 kind) 1 position) 2 recorded ≡ threeOf place recorded
-unfolding threeOf
-three-left t place kind position recorded h ek ep = cc (three-put t kind position recorded h, ek, ep)
+use Rattle.export_cursor.specs.Cursor.{kindOf, positionOf, samePlace, settledOf}
 
 -- two places are the same
 module _ (p q : Place) (a b : ℕ) (ka : a ≡ kindOf p) (kb : b ≡ kindOf q) where

@@ -1,4 +1,4 @@
--- An iterator that stands in lent memory: two tables of recorded keys, and three numbers.
+-- An iterator that stands in lent memory: two tables of recorded keys, and four numbers, of which the last is only written.
 use Prim.Native.Nat.{ℕ}
 use mathlib.Core.Bool.{Bool, _&&_}
 use mathlib.Core.List.{List, [], _∷_}
@@ -32,10 +32,6 @@ positionOf Done = 0
 positionOf (Next o) = o
 positionOf (SkipValue o) = o
 positionOf (SkipEqValue o) = o
-
--- the three numbers: the place's kind and position, and how many keys are recorded
-unfoldable pub threeOf : Place → ℕ → List ℕ
-threeOf place recorded = kindOf place ∷ positionOf place ∷ recorded ∷ []
 
 -- two places are the same
 unfoldable pub samePlace : Place → Place → Bool

@@ -3,8 +3,7 @@
 // only written. What the exports that take such an iterator share.
 use tag_step::Place;
 ghost use mathlib.Core.Path.{_≡_};
-ghost use lib.ListN.{length};
-ghost use Rattle.export_cursor.specs.Cursor.{placeFrom, kindOf, positionOf, threeOf, samePlace, settledOf};
+ghost use Rattle.export_cursor.specs.Cursor.{placeFrom, kindOf, positionOf, samePlace, settledOf};
 
 // A place from its kind and its position, in a tag that ends at `end`.
 pub fn place_from(end: usize, kind: usize, position: usize) -> Place
@@ -47,18 +46,6 @@ fn position_of(place: Place) -> usize
         Place::SkipValue(o) => o,
         Place::SkipEqValue(o) => o,
     }
-}
-
-// Leaves a place and the number of recorded keys in the caller's three numbers, as the next call takes them.
-pub fn leave(state: &mut [usize], place: Place, recorded: usize)
-    requires { ⌜ length (now state) ≡ 3 ⌝ }
-    ensures { λ _. ⌜ now (state .exit) ≡ threeOf place recorded ⌝ }
-{
-    let kind = kind_of(place);
-    let position = position_of(place);
-    state[0] = kind;
-    state[1] = position;
-    state[2] = recorded;
 }
 
 // Whether two places are the same.

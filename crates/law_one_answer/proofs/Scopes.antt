@@ -247,5 +247,5 @@ module _ {M : Type 1} (𝓤 : URA M) (H : Heap 𝓤) (A : Atoms 𝓤) (mem : Mem
   pub scope-in-place-set-max-namespace-bindings : Settled 𝓤 scope-in-place·set-max-namespace-bindings.ended (scope-in-place·set-max-namespace-bindings.clauses 𝓤 H A mem run)
   scope-in-place-set-max-namespace-bindings κs a g y z = follows 𝓤 (λ p q. together y z refl (together (y .1) (z .1) (p ∙ sym q) refl))
 
-  pub scope-nil-held-has-nil : Settled 𝓤 scope-nil-tag-carried·has-nil.ended (scope-nil-tag-carried·has-nil.clauses 𝓤 H A mem run)
-  scope-nil-held-has-nil κs a g y z = follows 𝓤 (λ p q. together y z (p .0 ∙ sym (q .0)) (together (y .1) (z .1) (p .1 ∙ sym (q .1)) refl))
+  pub scope-nil-carried-has-nil : Settled 𝓤 scope-nil-tag-carried·has-nil.ended (scope-nil-tag-carried·has-nil.clauses 𝓤 H A mem run)
+  scope-nil-carried-has-nil κs a g y z = follows 𝓤 (λ p q. together y z (p .0 ∙ sym (q .0)) (together (y .1) (z .1) (p .1 ∙ sym (q .1)) refl))

@@ -73,7 +73,6 @@ use Rattle.tag_carried.proofs.with_checks as tag-carried·with-checks
 use Rattle.tag_carried.proofs.next as tag-carried·next
 use Rattle.tag_carried.proofs.first as tag-carried·first
 use Rattle.export_cursor.proofs.place_from as export-cursor·place-from
-use Rattle.export_cursor.proofs.leave as export-cursor·leave
 use Rattle.export_cursor.proofs.settle as export-cursor·settle
 
 -- the outcome of a step on lent tables, read off what the contract states
@@ -253,9 +252,6 @@ module _ {M : Type 1} (𝓤 : URA M) (H : Heap 𝓤) (A : Atoms 𝓤) (mem : Mem
 
   pub export-cursor-place-from : Settled 𝓤 export-cursor·place-from.ended (export-cursor·place-from.clauses 𝓤 H A mem run)
   export-cursor-place-from κs a g y z = alone 𝓤 _ y z refl
-
-  pub export-cursor-leave : Settled 𝓤 export-cursor·leave.ended (export-cursor·leave.clauses 𝓤 H A mem run)
-  export-cursor-leave κs a g y z = follows 𝓤 (λ p q. together y z refl (together (y .1) (z .1) (p ∙ sym q) refl))
 
   pub export-cursor-settle : Settled 𝓤 export-cursor·settle.ended (export-cursor·settle.clauses 𝓤 H A mem run)
   export-cursor-settle κs a g y z = follows 𝓤 (λ p q. together y z refl (together (y .1) (z .1) (p ∙ sym q) refl))
