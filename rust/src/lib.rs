@@ -25,7 +25,7 @@
 //! The memory can be the caller's own: a resolver's, of any size, is lent by
 //! [`NamespaceResolver::new_in`](name::NamespaceResolver::new_in), a reader's by
 //! [`Attributes::with_tables`](events::attributes::Attributes::with_tables). Before the library is lent any
-//! it is asked for its layout, and another one than this crate's is a panic that says what differs.
+//! it is asked for its layout. If that is not the one this crate was written for, the call panics and says what differs.
 //!
 //! Normalisation of values and escapes are not part of it: values are those that stand in the tag.
 

@@ -74,7 +74,7 @@ fn letter_of(code: usize) -> u8
     b'E'
 }
 
-// An attribute's code is not pageLeft, a refusal's is.
+// An attribute's code is not shown, a refusal's is.
 fn shown_from(code: usize) -> usize
     ensures { λ r. ⌜ r ≡ shownFrom code ⌝ }
 {

@@ -59,6 +59,6 @@ bareIn s html checks keys key at = takenOn keys (bareOf s html checks keys key a
 abbrev pub valuedIn : List ℕ → Bool → Bool → Keys → Span → ℕ → Taken
 valuedIn s html checks keys key eq = takenOn keys (valuedOf s html checks keys key eq)
 
--- the step on lent tables (`lent-steps`, proofs/Lent: of the iterator that they are)
+-- the step on lent tables (`made-leaves`, `more-needs`, proofs/Lent: that of the iterator that they stand for)
 abbrev pub stepIn : List ℕ → Bool → Bool → Keys → Place → Taken
 stepIn s html checks keys place = takenOn keys (stepOf s html checks keys place)

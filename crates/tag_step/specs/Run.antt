@@ -49,7 +49,7 @@ runLent (suc n) s html checks keys place =
     consUnless (isEnd (stepOf s html checks keys place .answer)) (stepOf s html checks keys place .answer)
     (runLent n s html checks (stepOf s html checks keys place .keys) (stepOf s html checks keys place .place))
 
--- The same over where reading goes on, whatever place leads there, with the state taken for good (`run-resumes`,
+-- The same over where reading goes on, whatever place leads there, with the state taken for good (`lent-resumes`,
 -- proofs/Run).
 unfoldable pub runFrom : ℕ → List ℕ → Bool → Bool → Keys → Start → List Answer
 runFrom zero s html checks keys x = []
