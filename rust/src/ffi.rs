@@ -118,18 +118,6 @@ pub fn declares(name: &str) -> usize {
     unsafe { library::mz_declares(name.as_ptr(), name.len()) }
 }
 
-#[inline]
-pub fn is_xml(prefix: &str) -> bool {
-    // SAFETY: as for `mz_split`.
-    unsafe { library::mz_is_xml(prefix.as_ptr(), prefix.len()) != 0 }
-}
-
-#[inline]
-pub fn is_xmlns(prefix: &str) -> bool {
-    // SAFETY: as for `mz_split`.
-    unsafe { library::mz_is_xmlns(prefix.as_ptr(), prefix.len()) != 0 }
-}
-
 /// 0 no, 1 yes, 2 it declares nothing.
 pub fn verdict(name: &str, value: &str) -> usize {
     // SAFETY: each pointer and the length after it are those of a live slice, which the call only reads.
@@ -637,6 +625,7 @@ impl Answers {
 #[cfg(test)]
 mod tests {
     use super::{LAYOUT, differences, library};
+    use crate::name::QName;
 
     #[test]
     fn another_layout_is_named_with_both_numbers() {
@@ -649,5 +638,38 @@ mod tests {
         }
         // a library that knows of none of them
         assert_eq!(differences(|_| 0).matches(": 0 in the library").count(), 11);
+    }
+
+    #[test]
+    fn the_reserved_prefixes_are_the_librarys() {
+        // every text of up to six of the letters that the two have
+        let mut prefixes = vec![String::new()];
+        for from in 0.. {
+            match prefixes.get(from) {
+                Some(prefix) if prefix.len() < 6 => {
+                    let longer = "xmlns".chars().map(|last| format!("{prefix}{last}"));
+                    prefixes.extend(longer.collect::<Vec<_>>());
+                }
+                _ => break,
+            }
+        }
+        let mut found = Vec::new();
+        for prefix in prefixes {
+            let (at, length) = (prefix.as_ptr(), prefix.len());
+            // SAFETY: as for `mz_split`.
+            let theirs = unsafe {
+                [
+                    library::mz_is_xml(at, length) != 0,
+                    library::mz_is_xmlns(at, length) != 0,
+                ]
+            };
+            let name = format!("{prefix}:");
+            let ours = QName(&name).prefix().unwrap();
+            assert_eq!([ours.is_xml(), ours.is_xmlns()], theirs, "{prefix}");
+            if theirs != [false; 2] {
+                found.push(prefix);
+            }
+        }
+        assert_eq!(found, ["xml", "xmlns"]);
     }
 }

@@ -15,9 +15,10 @@
 //! ```
 //!
 //! What is proved is the static library below: which attributes a tag has, where it is damaged, what a
-//! value says, which namespace a name is in, whether an element is nil. No rule stands here a second time:
-//! this crate hands the library memory and turns its numbers into Rust's types, an unknown prefix into an
-//! error where that is asked for; that is tested and not proved. A tag of up to 32 attributes is read without
+//! value says, which namespace a name is in, whether an element is nil. This crate hands the library memory and
+//! turns its numbers into Rust's types, an unknown prefix into an error where that is asked for. By itself it
+//! compares a prefix with `xml` and `xmlns`, as constant functions have to, and escapes a value that an
+//! attribute is made of. All that is tested and not proved. A tag of up to 32 attributes is read without
 //! allocating, and a resolver has 1 KB and grows with what it holds. Six refusals that quick-xml does not have
 //! say when a table is full, or memory is too small or none of the library's
 //! ([`AttrError`](events::attributes::AttrError), [`NamespaceError`](name::NamespaceError)).
@@ -27,7 +28,7 @@
 //! [`Attributes::with_tables`](events::attributes::Attributes::with_tables). Before the library is lent any
 //! it is asked for its layout. If that is not the one this crate was written for, the call panics and says what differs.
 //!
-//! Normalisation of values and escapes are not part of it: values are those that stand in the tag.
+//! Values are not normalised: they are those that stand in the tag, and references in them are not replaced.
 
 #![deny(unsafe_code)]
 

@@ -8,6 +8,7 @@ use mezzulidda::name::{
     Memory, Namespace, NamespaceError, NamespaceResolver, PrefixDeclaration, QName, ResolveResult,
     Room,
 };
+use std::borrow::Cow;
 use std::thread;
 
 fn keys(count: usize) -> String {
@@ -110,6 +111,34 @@ fn bytes_that_are_no_text() {
     );
     let mut tables = Tables::new();
     assert_eq!(ByteAttributes::with_tables(tag, 1, &mut tables).count(), 3);
+}
+
+#[test]
+fn an_attribute_of_a_key_and_a_value() {
+    let each = Attribute::from(("k&", "<>&'\"<a b='é'>&amp;\t\n"));
+    assert_eq!(
+        (each.key, &*each.value),
+        (
+            QName("k&"),
+            "&lt;&gt;&amp;&apos;&quot;&lt;a b=&apos;é&apos;&gt;&amp;amp;\t\n"
+        )
+    );
+    // what needs no escape is not copied
+    let plain = "c-17 größe\r;#";
+    let kept = Attribute::from(("k", plain));
+    assert!(matches!(kept.value, Cow::Borrowed(value) if std::ptr::eq(value, plain)));
+    let kept = Attribute::from(("k", Cow::Owned::<str>(plain.to_string())));
+    assert!(matches!(kept.value, Cow::Owned(value) if value == plain));
+    let written = Attribute::from(("k", Cow::Owned::<str>("a&b".to_string())));
+    assert_eq!(written.value, "a&amp;b");
+    // in quotes of either kind it is read as it was written
+    for quote in ['"', '\''] {
+        let tag = format!("chunk k={quote}{}{quote}", each.value);
+        assert_eq!(
+            Attributes::new(&tag, 5).next().unwrap().unwrap().value,
+            each.value
+        );
+    }
 }
 
 #[test]

@@ -10,8 +10,8 @@ use xml::events::BytesStart;
 use xml::events::attributes::{Attr, AttrError, Attribute, Attributes};
 use xml::name::{
     DEFAULT_MAX_NAMESPACE_BINDINGS, LocalName, Namespace, NamespaceBindingsIter,
-    NamespaceBindingsOfLevelIter, NamespaceError, NamespaceResolver, PrefixDeclaration, QName,
-    ResolveResult,
+    NamespaceBindingsOfLevelIter, NamespaceError, NamespaceResolver, Prefix, PrefixDeclaration,
+    QName, ResolveResult,
 };
 
 const XML: &str = "http://www.w3.org/XML/1998/namespace";
@@ -269,6 +269,14 @@ mod attributes {
                 (1, value.map(str::len))
             );
         }
+        assert_eq!(
+            format!("{:?} {:?}", Attr::DoubleQ("k", "v"), Attr::SingleQ(1, 2)),
+            "Attr::DoubleQ(\"k\", \"v\") Attr::SingleQ(1, 2)"
+        );
+        assert_eq!(
+            format!("{:?} {:#?}", Attr::Unquoted('k', 'v'), Attr::Empty("k")),
+            "Attr::Unquoted('k', 'v') Attr::Empty(\n    \"k\",\n)"
+        );
     }
 
     #[test]
@@ -364,6 +372,32 @@ mod attributes {
         assert_eq!(bare.borrow(), bare);
         assert_eq!(bare.clone().into_owned(), bare);
     }
+
+    #[test]
+    fn one_attribute_is_looked_for_without_checks() {
+        let start = tag("chunk id='c-17' id='c-18' offset='0' last");
+        let found = |name| start.try_get_attribute(name);
+        assert_eq!(found("id"), Ok(Some(attribute("id", "c-17"))));
+        assert_eq!(found("offset"), Ok(Some(attribute("offset", "0"))));
+        assert_eq!(found("size"), Err(AttrError::ExpectedEq(41)));
+    }
+
+    #[test]
+    fn a_tag_is_a_text() {
+        fn kept() -> BytesStart<'static> {
+            let content = String::from("chunk id='c-17'");
+            BytesStart::from_content(&*content, 5).to_owned()
+        }
+        let start = kept();
+        let text: &str = start.as_ref();
+        assert_eq!(text, "chunk id='c-17'");
+        assert_eq!(start, tag(text));
+        assert_eq!(
+            format!("{start:?} {:#?}", start.borrow()),
+            "BytesStart { buf: Owned(\"chunk id='c-17'\"), name_len: 5 } \
+             BytesStart { buf: Borrowed(\"chunk id='c-17'\"), name_len: 5 }"
+        );
+    }
 }
 
 mod names {
@@ -420,8 +454,13 @@ mod names {
             (":a", false, false),
         ] {
             let prefix = QName(name).prefix().unwrap();
-            assert_eq!((prefix.is_xml(), prefix.is_xmlns()), (is_xml, is_xmlns));
+            assert_eq!(reserved(prefix), (is_xml, is_xmlns));
         }
+    }
+
+    /// In a constant function of a program's own.
+    const fn reserved(prefix: Prefix) -> (bool, bool) {
+        (prefix.is_xml(), prefix.is_xmlns())
     }
 
     #[test]

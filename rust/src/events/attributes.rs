@@ -38,6 +38,57 @@ impl Attribute<'_> {
     }
 }
 
+impl<'a> From<(&'a str, &'a str)> for Attribute<'a> {
+    /// An attribute of this key, with a text for its value, which is escaped.
+    ///
+    /// ```
+    /// use mezzulidda::events::attributes::Attribute;
+    ///
+    /// let volume = Attribute::from(("volume", "north & south"));
+    /// assert_eq!(volume.value, "north &amp; south");
+    /// ```
+    fn from((key, value): (&'a str, &'a str)) -> Self {
+        Self::from((key, Cow::Borrowed(value)))
+    }
+}
+
+impl<'a> From<(&'a str, Cow<'a, str>)> for Attribute<'a> {
+    /// The same; a value that needs no escape is taken as it is.
+    fn from((key, value): (&'a str, Cow<'a, str>)) -> Self {
+        Attribute {
+            key: QName(key),
+            value: escaped(value),
+        }
+    }
+}
+
+/// The reference that stands for a character, where XML has one without a declaration.
+const fn reference(character: char) -> Option<&'static str> {
+    match character {
+        '<' => Some("&lt;"),
+        '>' => Some("&gt;"),
+        '&' => Some("&amp;"),
+        '\'' => Some("&apos;"),
+        '"' => Some("&quot;"),
+        _ => None,
+    }
+}
+
+/// A text as it can stand between quotes of either kind.
+fn escaped(text: Cow<str>) -> Cow<str> {
+    if !text.contains(|character| reference(character).is_some()) {
+        return text;
+    }
+    let mut written = String::new();
+    for character in text.chars() {
+        match reference(character) {
+            Some(reference) => written.push_str(reference),
+            None => written.push(character),
+        }
+    }
+    Cow::Owned(written)
+}
+
 impl<'a> From<Attr<&'a str>> for Attribute<'a> {
     #[inline]
     fn from(attr: Attr<&'a str>) -> Self {
@@ -49,7 +100,7 @@ impl<'a> From<Attr<&'a str>> for Attribute<'a> {
 }
 
 /// An attribute by the way it is written.
-#[derive(Clone, Debug, PartialEq, Eq, PartialOrd, Ord, Hash)]
+#[derive(Clone, PartialEq, Eq, PartialOrd, Ord, Hash)]
 pub enum Attr<T> {
     /// `key="value"`
     DoubleQ(T, T),
@@ -108,6 +159,23 @@ impl<T> From<Attr<T>> for (T, Option<T>) {
             }
             Attr::Empty(key) => (key, None),
         }
+    }
+}
+
+impl<T: Debug> Debug for Attr<T> {
+    fn fmt(&self, f: &mut Formatter) -> fmt::Result {
+        let (way, key, value) = match self {
+            Attr::DoubleQ(key, value) => ("Attr::DoubleQ", key, Some(value)),
+            Attr::SingleQ(key, value) => ("Attr::SingleQ", key, Some(value)),
+            Attr::Unquoted(key, value) => ("Attr::Unquoted", key, Some(value)),
+            Attr::Empty(key) => ("Attr::Empty", key, None),
+        };
+        let mut shown = f.debug_tuple(way);
+        shown.field(key);
+        if let Some(value) = value {
+            shown.field(value);
+        }
+        shown.finish()
     }
 }
 

@@ -224,16 +224,18 @@ impl<'a> Prefix<'a> {
         self.with_colon.split_at(self.with_colon.len() - 1).0
     }
 
+    // These two don't ask the library, which a constant function can't call: a test holds them against it.
+
     /// Whether it is `xml`.
     #[inline]
-    pub fn is_xml(&self) -> bool {
-        ffi::is_xml(self.into_inner())
+    pub const fn is_xml(&self) -> bool {
+        matches!(self.with_colon.as_bytes(), b"xml:")
     }
 
     /// Whether it is `xmlns`.
     #[inline]
-    pub fn is_xmlns(&self) -> bool {
-        ffi::is_xmlns(self.into_inner())
+    pub const fn is_xmlns(&self) -> bool {
+        matches!(self.with_colon.as_bytes(), b"xmlns:")
     }
 }
 
