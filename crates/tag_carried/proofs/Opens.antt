@@ -37,7 +37,7 @@ use denote.Exit.{yes}
 use Rattle.tag_carried.specs.Held.{openedOn}
 use Rattle.tag_carried.specs.declared.Attributes.{Attributes}
 use Rattle.tag_carried.proofs.Attributes.Laws as T′
-use Rattle.tag_carried.proofs.Calls.{returned}
+use Rattle.law_calls.proofs.Calls.{returned}
 use Rattle.tag_carried.proofs.Parts.{Row, D, L, tagVal, tagOwn}
 use Rattle.tag_carried.proofs.wrap as g
 use Rattle.tag_carried.proofs.wrap.Symbol.{name as #g}

@@ -58,7 +58,7 @@ use Rattle.scope_nil.proofs.has_nil.Symbol.{name as #g}
 use Rattle.scope_nil.proofs.has_nil.Met as g-thm
 use Rattle.tag_carried.specs.declared.Attributes.{Attributes}
 use Rattle.tag_carried.proofs.Attributes.Laws as T′
-use Rattle.tag_carried.proofs.Calls.{returned}
+use Rattle.law_calls.proofs.Calls.{returned}
 use Rattle.tag_carried.proofs.Parts.{Row, D, L, tagVal, stateVals, heldVal, heldOwn, of, state-is, puts}
 use Rattle.scope_nil_carried.proofs.has_nil.Key.{name as #f}
 use Rattle.scope_nil_carried.proofs.has_nil as f

@@ -45,7 +45,7 @@ use Rattle.tag_step.proofs.Answer.Laws as E′
 use Rattle.tag_carried.specs.Held.{openedOn, answerOf, afterNext}
 use Rattle.tag_carried.specs.declared.Attributes.{Attributes}
 use Rattle.tag_carried.proofs.Attributes.Laws as T′
-use Rattle.tag_carried.proofs.Calls.{returned}
+use Rattle.law_calls.proofs.Calls.{returned}
 use Rattle.tag_carried.proofs.Parts.{Row, D, L, tagVal, tagOwn}
 use Rattle.tag_carried.proofs.Loan.{Rest, begins, ends, lends, comes-back}
 use Rattle.tag_carried.proofs.new as new

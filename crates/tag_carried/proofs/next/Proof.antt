@@ -52,7 +52,7 @@ use Rattle.tag_step.proofs.IterState.next.Symbol.{name as #g}
 use Rattle.tag_step.proofs.IterState.next.Met as g-thm
 use Rattle.tag_carried.specs.declared.Attributes.{Attributes}
 use Rattle.tag_carried.proofs.Attributes.Laws as T′
-use Rattle.tag_carried.proofs.Calls.{returned}
+use Rattle.law_calls.proofs.Calls.{returned}
 use Rattle.tag_carried.proofs.Parts.{Row, D, L, tagVal, stateVals, heldVal, heldOwn, of, state-is, puts}
 use Rattle.tag_carried.proofs.next.Key.{name as #f}
 use Rattle.tag_carried.proofs.next as f

@@ -45,7 +45,7 @@ use Rattle.tag_step.proofs.IterState.with_checks.Symbol.{name as #g}
 use Rattle.tag_step.proofs.IterState.with_checks.Met as g-thm
 use Rattle.tag_carried.specs.declared.Attributes.{Attributes}
 use Rattle.tag_carried.proofs.Attributes.Laws as T′
-use Rattle.tag_carried.proofs.Calls.{returned}
+use Rattle.law_calls.proofs.Calls.{returned}
 use Rattle.tag_carried.proofs.Parts.{Row, D, L, stateVals, heldVal, heldOwn, of, state-is, told, puts}
 use Rattle.tag_carried.proofs.with_checks.Key.{name as #f}
 use Rattle.tag_carried.proofs.with_checks as f

@@ -46,7 +46,7 @@ use Rattle.tag_step.proofs.IterState.new.Symbol as g-def
 use Rattle.tag_step.proofs.IterState.new.Symbol.{name as #g}
 use Rattle.tag_step.proofs.IterState.new.Met as g-thm
 use Rattle.tag_carried.specs.declared.Attributes.{Attributes}
-use Rattle.tag_carried.proofs.Calls.{returned}
+use Rattle.law_calls.proofs.Calls.{returned}
 use Rattle.tag_carried.proofs.Parts.{Row, D, L, tagVal, heldVal, tagOwn, heldOwn, of, told, makes}
 use Rattle.tag_carried.proofs.wrap.Key.{name as #f}
 use Rattle.tag_carried.proofs.wrap as f
