@@ -42,7 +42,7 @@ linesOf (a ∷ more) = lineOf (numbersOf a) ++ linesOf more
 
 -- The same from the five numbers that a batch writes for each answer, of which the last may be zeros that say nothing.
 
--- how many values a number of `numbersOf` has (`own-numbers`, proofs/Text)
+-- how many values a number of `numbersOf` has (`own-numbers`, proofs/Pages)
 unfoldable pub valuesOf : ℕ → ℕ
 valuesOf code =
     pick (eqb code 0) 0
@@ -55,7 +55,7 @@ valuesOf code =
 unfoldable pub ownOf : List ℕ → List ℕ
 ownOf five = take (suc (valuesOf (getD five 0 0))) five
 
--- the lines of the first n fives (`fives-text`, proofs/Text)
+-- the lines of the first n fives (`fives-text`, proofs/Pages)
 unfoldable pub fiveLines : ℕ → List ℕ → List ℕ
 fiveLines zero ns = []
 fiveLines (suc n) ns = lineOf (ownOf (take 5 ns)) ++ fiveLines n (drop 5 ns)

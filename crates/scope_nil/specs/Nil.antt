@@ -98,7 +98,7 @@ hasNilOf s st x =
     (pick (stateGood s st) (searched x s st) (said BadState (nextOf s st .state)))
     (said BadResolver st)
 
--- Lent key tables may be shorter than the capacity: they are the iterator whose missing places are unused (attributes,
+-- Lent key tables may be shorter than the capacity: they are the iterator whose missing places are unused (tag_step,
 -- specs/Lent). What a search leaves of it, where the tables hold that; else LendMore, and nothing changes.
 unfoldable pub heldNil : IterState → HasNil → HasNil
 heldNil st h =
