@@ -6,7 +6,7 @@
 
 use crate::LentError;
 use crate::library;
-use crate::memory::{Lent, View};
+use crate::memory::{Lent, Memory, View};
 use std::mem::MaybeUninit;
 use std::sync::atomic::{AtomicBool, Ordering};
 
@@ -106,7 +106,7 @@ fn differences(says: impl Fn(usize) -> usize) -> String {
 
 /// The index of the first colon, or the length where there is none.
 #[inline]
-pub fn split(name: &str) -> usize {
+pub fn split(name: &[u8]) -> usize {
     // SAFETY: pointer and length are those of one live slice, which the call only reads.
     unsafe { library::mz_split(name.as_ptr(), name.len()) }
 }
@@ -319,7 +319,7 @@ impl Reads for Inside {
 /// Memory of the caller's own in which tags are read, one after another: the places of all keys that can be
 /// recorded, the place of reading, and the answers that were read ahead. Nothing is allocated for any tag.
 ///
-/// 4.5 KB, and not cleared: opening a tag costs the same whatever was read before.
+/// [`SIZE`](Self::SIZE) bytes, 4.5 KB, and not cleared: opening a tag costs the same whatever was read before.
 #[derive(Clone)]
 pub struct Tables {
     pub(crate) ahead: Ahead,
@@ -384,6 +384,10 @@ impl Tables {
     }
 }
 
+// Bytes that are lent for tables are as many as tables are, and stand where they can.
+const _: () =
+    assert!(Tables::SIZE == size_of::<Tables>() && Tables::ALIGNMENT == align_of::<Tables>());
+
 impl Reads for &mut Tables {
     #[inline]
     fn ahead(&self) -> &Ahead {
@@ -412,6 +416,12 @@ pub fn numbers_in(bytes: &mut [u8]) -> Option<&mut [usize]> {
     // SAFETY: any bytes are a number, and whatever is written to one leaves bytes.
     let (before, numbers, _) = unsafe { bytes.align_to_mut() };
     before.is_empty().then_some(numbers)
+}
+
+/// Memory for a resolver on the heap, with no resolver in it yet.
+pub fn zeros<const TEXT: usize, const BINDINGS: usize>() -> Box<Memory<TEXT, BINDINGS>> {
+    // SAFETY: it is arrays of numbers, and zeros are numbers.
+    unsafe { Box::new_zeroed().assume_init() }
 }
 
 // One call of the library on a resolver's memory: by `as_mut_ptr` where it changes it, by `as_ptr` where it
@@ -446,7 +456,7 @@ impl Lent<'_> {
 
     /// 0, or a refusal with its numbers; bounds are those in the prefix or the value.
     #[inline]
-    pub(crate) fn add(&mut self, prefix: Option<&str>, value: &str) -> (usize, Detail) {
+    pub(crate) fn add(&mut self, prefix: Option<&[u8]>, value: &[u8]) -> (usize, Detail) {
         let mut detail: Detail = [0; 2];
         let named = prefix.is_some();
         let prefix = prefix.unwrap_or_default();
@@ -465,7 +475,7 @@ impl Lent<'_> {
 
     /// 0, or a refusal with its numbers; bounds are those in the tag.
     #[inline]
-    pub(crate) fn push(&mut self, tag: &str, at: usize) -> (usize, Detail) {
+    pub(crate) fn push(&mut self, tag: &[u8], at: usize) -> (usize, Detail) {
         let mut detail: Detail = [0; 2];
         let to = detail.as_mut_ptr();
         let answer = call!(mz_push, self.as_mut_ptr(), tag.as_ptr(), tag.len(), at, to);
@@ -493,7 +503,7 @@ impl View<'_> {
 
     /// 0 unbound, 1 bound, with the URI's bounds in the text, 2 unknown, with the prefix's in the name.
     #[inline]
-    pub(crate) fn resolve(self, name: &str, use_default: bool) -> (usize, Detail) {
+    pub(crate) fn resolve(self, name: &[u8], use_default: bool) -> (usize, Detail) {
         let mut detail: Detail = [0; 2];
         let to = detail.as_mut_ptr();
         let answer = call!(

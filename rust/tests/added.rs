@@ -1,9 +1,7 @@
-//! What quick-xml does not have: capacities and their refusals, memory that grows or is lent, and bytes.
+//! What quick-xml does not have: capacities and their refusals, and memory that grows or is lent.
 
 use mezzulidda::events::BytesStart;
-use mezzulidda::events::attributes::{
-    Attr, AttrError, Attribute, Attributes, ByteAttributes, Tables,
-};
+use mezzulidda::events::attributes::{AttrError, Attribute, Attributes, Tables};
 use mezzulidda::name::{
     Memory, Namespace, NamespaceError, NamespaceResolver, PrefixDeclaration, QName, ResolveResult,
     Room,
@@ -85,32 +83,6 @@ fn a_run_that_is_turned_off_and_on_at_any_place() {
             }
         }
     }
-}
-
-#[test]
-fn bytes_that_are_no_text() {
-    let tag = b"\xfe id='\xff' \xfe=\"\" id=''";
-    let mut bytes = ByteAttributes::new(tag, 1);
-    assert_eq!(
-        bytes.next(),
-        Some(Ok(Attr::SingleQ(&b"id"[..], &b"\xff"[..])))
-    );
-    assert_eq!(
-        bytes.next(),
-        Some(Ok(Attr::DoubleQ(&b"\xfe"[..], &b""[..])))
-    );
-    assert_eq!(bytes.next(), Some(Err(AttrError::Duplicated(14, 2))));
-    assert_eq!(bytes.next(), None);
-    assert_eq!(ByteAttributes::new(tag, 1).with_checks(false).count(), 3);
-    assert_eq!(
-        ByteAttributes::html(b"a b=c", 0).collect::<Vec<_>>(),
-        [
-            Ok(Attr::Empty(&b"a"[..])),
-            Ok(Attr::Unquoted(&b"b"[..], &b"c"[..]))
-        ]
-    );
-    let mut tables = Tables::new();
-    assert_eq!(ByteAttributes::with_tables(tag, 1, &mut tables).count(), 3);
 }
 
 #[test]

@@ -371,8 +371,8 @@ fn refused(number: usize, a: usize, b: usize) -> AttrError {
 
 /// The attributes of a tag, and what is wrong in it, in the order in which they stand.
 ///
-/// The memory for the keys of 32 attributes is inside, less than 1 KB in all; a tag with more gets its places
-/// on the heap. It can be lent instead ([`with_tables`](Attributes::with_tables)): no tag allocates then, and
+/// The memory for the keys of 32 attributes is inside, less than 1 KB in all, which stands on the stack once for each
+/// open tag where a program goes from tag to tag by recursion; a tag with more keys gets its places on the heap. It can be lent instead ([`with_tables`](Attributes::with_tables)): no tag allocates then, and
 /// the iterator is small and is moved at no cost.
 #[derive(Clone)]
 pub struct Attributes<'a, T = Inside> {
@@ -465,7 +465,8 @@ impl<'a, T: Kept> Iterator for Attributes<'a, T> {
 
     /// # Panics
     ///
-    /// As quick-xml's, where reading began inside a character and a key with it.
+    /// As quick-xml's, where reading began inside a character and a key with it; and where the library is none
+    /// for [this crate](crate#panics).
     #[inline]
     fn next(&mut self) -> Option<Self::Item> {
         let answer = self.state.next(self.buf.as_bytes())?;
@@ -541,11 +542,19 @@ impl<T: Kept> ByteAttributes<'_, T> {
         self.state.with_checks(self.buf, val);
         self
     }
+
+    /// As [`Attributes::has_nil`].
+    pub fn has_nil<M: Holder>(&mut self, resolver: &NamespaceResolver<M>) -> bool {
+        self.state.has_nil(self.buf, resolver.memory())
+    }
 }
 
 impl<'a, T: Kept> Iterator for ByteAttributes<'a, T> {
     type Item = Result<Attr<&'a [u8]>, AttrError>;
 
+    /// # Panics
+    ///
+    /// Where the library is none for [this crate](crate#panics).
     #[inline]
     fn next(&mut self) -> Option<Self::Item> {
         let answer = self.state.next(self.buf)?;
@@ -592,6 +601,3 @@ impl Debug for Inside {
         Shown(&self.ahead).fmt(f)
     }
 }
-
-// An iterator stands on the stack, one for each open tag where a program goes from tag to tag by recursion.
-const _: () = assert!(size_of::<Attributes>() <= 1_000);

@@ -44,6 +44,9 @@ pub enum NamespaceError {
         /// So much is lent.
         given: Room,
     },
+    /// A declaration of a tag that need not be text ([`NamespaceResolver::push_bytes`]) is not UTF-8. Nothing
+    /// was changed. quick-xml doesn't have this: its tags are text.
+    NoText,
     /// The memory is not that of a resolver. Memory is looked at before it is a resolver's
     /// ([`NamespaceResolver::resume_in`]) and the library alone writes it then, so it doesn't come here;
     /// quick-xml doesn't have it.
@@ -86,6 +89,7 @@ impl Display for NamespaceError {
             Self::LentMemoryFull { wanted, given } => {
                 write!(f, "room for {wanted} is needed, and for {given} is lent")
             }
+            Self::NoText => write!(f, "a namespace declaration is not UTF-8"),
             Self::BadResolver => write!(f, "the memory is not that of a resolver"),
         }
     }
@@ -148,7 +152,7 @@ impl<'a> QName<'a> {
     /// Both parts.
     #[inline]
     pub fn decompose(&self) -> (LocalName<'a>, Option<Prefix<'a>>) {
-        let colon = ffi::split(self.0);
+        let colon = ffi::split(self.0.as_bytes());
         if colon == self.0.len() {
             return (LocalName(self.0), None);
         }
