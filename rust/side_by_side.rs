@@ -54,6 +54,7 @@ fn scope_error(error: NamespaceError) -> Error {
         NamespaceError::BindingTableFull
         | NamespaceError::TextFull
         | NamespaceError::LentMemoryFull { .. }
+        | NamespaceError::NoText
         | NamespaceError::BadResolver => return limit(error),
     })
 }
