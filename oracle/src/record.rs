@@ -31,7 +31,10 @@ fn main() -> ExitCode {
         ["tags", "bytes"] => Ok(tags().iter().flat_map(tag_bytes).collect()),
         ["scopes", "text"] => calls::text().map(String::into_bytes),
         ["scopes", "bytes"] => calls::bytes(two),
-        _ => Err("usage: record names|tags|scopes text|bytes".to_string()),
+        _ => {
+            eprintln!("usage: record names|tags|scopes text|bytes");
+            return ExitCode::from(2);
+        }
     };
     let done = written.and_then(|bytes| {
         let mut out = std::io::stdout();
