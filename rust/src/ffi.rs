@@ -7,8 +7,12 @@
 use crate::LentError;
 use crate::library;
 use crate::memory::{Lent, Memory, View};
-use std::mem::MaybeUninit;
-use std::sync::atomic::{AtomicBool, Ordering};
+use alloc::boxed::Box;
+use alloc::format;
+use alloc::string::String;
+use alloc::vec::Vec;
+use core::mem::MaybeUninit;
+use core::sync::atomic::{AtomicBool, Ordering};
 
 /// How many keys of a tag can be recorded, for how many there are places inside an iterator, and how many
 /// answers are read ahead.
@@ -634,8 +638,9 @@ impl Answers {
 
 #[cfg(test)]
 mod tests {
-    use super::{LAYOUT, differences, library};
+    use super::{LAYOUT, String, Vec, differences, format, library};
     use crate::name::QName;
+    use alloc::vec;
 
     #[test]
     fn another_layout_is_named_with_both_numbers() {

@@ -24,6 +24,7 @@
 //! ([`AttrError`](events::attributes::AttrError), [`NamespaceError`](name::NamespaceError)).
 //!
 //! Values are not normalised: they are those that stand in the tag, and references in them are not replaced.
+//! Of Rust's libraries `core` and `alloc` are needed, and not `std`.
 //!
 //! # Memory
 //!
@@ -49,7 +50,10 @@
 //! ([`BytesStart::name`](events::BytesStart::name) and the iterator
 //! [`Attributes`](events::attributes::Attributes)). Nothing that stands in a tag, a name or lent memory does.
 
+#![no_std]
 #![deny(unsafe_code)]
+
+extern crate alloc;
 
 pub mod events;
 // The boundary: the one place where memory is handed to code that Rust doesn't check, and the declarations.

@@ -2,7 +2,10 @@
 
 use crate::LentError;
 use crate::ffi::{self, Head, RECORDS, Record, TEXT};
-use std::fmt::{self, Debug, Display, Formatter};
+use alloc::boxed::Box;
+use alloc::vec;
+use alloc::vec::Vec;
+use core::fmt::{self, Debug, Display, Formatter};
 
 /// The numbers of a record, and of a head.
 const RECORD: usize = size_of::<Record>() / size_of::<usize>();

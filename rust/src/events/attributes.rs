@@ -3,11 +3,12 @@
 use crate::ffi::{self, Ahead, Answer, BATCH, Reads};
 use crate::memory::View;
 use crate::name::{Holder, NamespaceResolver, QName};
-use std::borrow::Cow;
-use std::error::Error;
-use std::fmt::{self, Debug, Display, Formatter};
-use std::iter::FusedIterator;
-use std::ops::Range;
+use alloc::borrow::Cow;
+use alloc::string::String;
+use core::error::Error;
+use core::fmt::{self, Debug, Display, Formatter};
+use core::iter::FusedIterator;
+use core::ops::Range;
 
 pub use crate::ffi::{Inside, Tables};
 

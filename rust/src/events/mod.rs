@@ -3,10 +3,10 @@
 pub mod attributes;
 
 use crate::name::{LocalName, QName};
+use alloc::borrow::Cow;
 use attributes::{AttrError, Attribute, Attributes, Tables};
-use std::borrow::Cow;
-use std::fmt::{self, Debug, Formatter};
-use std::ops::Deref;
+use core::fmt::{self, Debug, Formatter};
+use core::ops::Deref;
 
 /// An opening tag: what stands between `<` and `>` or `/>`, and where its name ends.
 ///

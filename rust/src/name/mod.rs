@@ -3,10 +3,11 @@
 mod resolver;
 
 use crate::ffi;
-use std::cmp::Ordering;
-use std::error::Error;
-use std::fmt::{self, Debug, Display, Formatter};
-use std::hash::{Hash, Hasher};
+use alloc::string::String;
+use core::cmp::Ordering;
+use core::error::Error;
+use core::fmt::{self, Debug, Display, Formatter};
+use core::hash::{Hash, Hasher};
 
 pub use resolver::{
     DEFAULT_MAX_NAMESPACE_BINDINGS, Holder, Lent, Memory, NamespaceBindingsIter,

@@ -7,9 +7,11 @@ use crate::LentError;
 use crate::events::BytesStart;
 use crate::ffi::{self, Answers, Detail, LEND_MORE, Listed, NAMES};
 use crate::memory::{Holds, View};
-use std::fmt::{self, Debug, Formatter};
-use std::iter::FusedIterator;
-use std::ops::{Index, Range};
+use alloc::string::{String, ToString};
+use alloc::vec::Vec;
+use core::fmt::{self, Debug, Formatter};
+use core::iter::FusedIterator;
+use core::ops::{Index, Range};
 
 pub use crate::memory::{Holder, Lent, Memory, Owned, Room};
 
