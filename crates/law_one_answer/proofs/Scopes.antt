@@ -69,6 +69,7 @@ use Rattle.scope_listing_carried.proofs.bindings as scope-listing-carried·bind
 use Rattle.scope_listing_carried.proofs.bindings_of as scope-listing-carried·bindings-of
 use Rattle.scope_listing_carried.proofs.NamespaceBindingsIter.next as scope-listing-carried·NamespaceBindingsIter·next
 use Rattle.scope_listing_carried.proofs.NamespaceBindingsOfLevelIter.next as scope-listing-carried·NamespaceBindingsOfLevelIter·next
+use Rattle.scope_nil.proofs.Numbers.{nil-apart}
 use Rattle.scope_nil.proofs.has_nil_in as scope-nil·has-nil-in
 use Rattle.scope_nil.proofs.has_nil as scope-nil·has-nil
 use Rattle.scope_in_place.proofs.set_level as scope-in-place·set-level
@@ -265,4 +266,4 @@ module _ {M : Type 1} (𝓤 : URA M) (H : Heap 𝓤) (A : Atoms 𝓤) (mem : Mem
   scope-in-place-set-max-namespace-bindings κs a g y z = follows 𝓤 (λ p q. together y z refl (together (y .1) (z .1) (p ∙ sym q) refl))
 
   pub scope-nil-carried-has-nil : Settled 𝓤 scope-nil-tag-carried·has-nil.ended (scope-nil-tag-carried·has-nil.clauses 𝓤 H A mem run)
-  scope-nil-carried-has-nil κs a g y z = follows 𝓤 (λ p q. together y z (p .0 ∙ sym (q .0)) (together (y .1) (z .1) (p .1 ∙ sym (q .1)) refl))
+  scope-nil-carried-has-nil κs a g y z = follows 𝓤 (λ p q. together y z (nil-apart (y .0) (z .0) (p .0 ∙ sym (q .0))) (together (y .1) (z .1) (p .1 ∙ sym (q .1)) refl))

@@ -67,10 +67,13 @@ use Rattle.tag_parts.proofs.as_bool as tag-parts·as-bool
 use Rattle.tag_batch.proofs.Why.number as tag-batch·Why·number
 use Rattle.tag_batch.proofs.numbers as tag-batch·numbers
 use Rattle.tag_batch.proofs.read_batch as tag-batch·read-batch
-use Rattle.tag_carried.proofs.new as tag-carried·new
-use Rattle.tag_carried.proofs.html as tag-carried·html
-use Rattle.tag_carried.proofs.with_checks as tag-carried·with-checks
-use Rattle.tag_carried.proofs.next as tag-carried·next
+use Rattle.tag_step.proofs.Numbers.{numbers-apart}
+use Rattle.tag_carried.proofs.Attributes.new as tag-carried·Attributes·new
+use Rattle.tag_carried.proofs.Attributes.html as tag-carried·Attributes·html
+use Rattle.tag_carried.proofs.Attributes.with_checks as tag-carried·Attributes·with-checks
+use Rattle.tag_carried.proofs.Attributes.next as tag-carried·Attributes·next
+use Rattle.tag_carried.proofs.Attributes.key as tag-carried·Attributes·key
+use Rattle.tag_carried.proofs.Attributes.value as tag-carried·Attributes·value
 use Rattle.tag_carried.proofs.first as tag-carried·first
 use Rattle.export_cursor.proofs.place_from as export-cursor·place-from
 use Rattle.export_cursor.proofs.settle as export-cursor·settle
@@ -235,20 +238,26 @@ module _ {M : Type 1} (𝓤 : URA M) (H : Heap 𝓤) (A : Atoms 𝓤) (mem : Mem
   pub tag-batch-read-batch : Settled 𝓤 tag-batch·read-batch.ended (tag-batch·read-batch.clauses 𝓤 H A mem run)
   tag-batch-read-batch κs a g y z = read-off 𝓤 (λ (x : Batched). (x .batch, (tt, (x .starts, (x .ends, (tt, (tt, (tt, (tt, (x .out, tt))))))))))
 
-  pub tag-carried-new : Settled 𝓤 tag-carried·new.ended (tag-carried·new.clauses 𝓤 H A mem run)
-  tag-carried-new κs a g y z = alone 𝓤 _ y z refl
+  pub tag-carried-Attributes-new : Settled 𝓤 tag-carried·Attributes·new.ended (tag-carried·Attributes·new.clauses 𝓤 H A mem run)
+  tag-carried-Attributes-new κs a g y z = alone 𝓤 _ y z refl
 
-  pub tag-carried-html : Settled 𝓤 tag-carried·html.ended (tag-carried·html.clauses 𝓤 H A mem run)
-  tag-carried-html κs a g y z = alone 𝓤 _ y z refl
+  pub tag-carried-Attributes-html : Settled 𝓤 tag-carried·Attributes·html.ended (tag-carried·Attributes·html.clauses 𝓤 H A mem run)
+  tag-carried-Attributes-html κs a g y z = alone 𝓤 _ y z refl
 
-  pub tag-carried-with-checks : Settled 𝓤 tag-carried·with-checks.ended (tag-carried·with-checks.clauses 𝓤 H A mem run)
-  tag-carried-with-checks κs a g y z = alone 𝓤 _ y z refl
+  pub tag-carried-Attributes-with-checks : Settled 𝓤 tag-carried·Attributes·with-checks.ended (tag-carried·Attributes·with-checks.clauses 𝓤 H A mem run)
+  tag-carried-Attributes-with-checks κs a g y z = follows 𝓤 (λ p q. together y z refl (together (y .1) (z .1) (p ∙ sym q) refl))
 
-  pub tag-carried-next : Settled 𝓤 tag-carried·next.ended (tag-carried·next.clauses 𝓤 H A mem run)
-  tag-carried-next κs a g y z = follows 𝓤 (λ p q. together y z (p .0 ∙ sym (q .0)) (together (y .1) (z .1) (p .1 ∙ sym (q .1)) refl))
+  pub tag-carried-Attributes-next : Settled 𝓤 tag-carried·Attributes·next.ended (tag-carried·Attributes·next.clauses 𝓤 H A mem run)
+  tag-carried-Attributes-next κs a g y z = follows 𝓤 (λ p q. together y z (numbers-apart (y .0) (z .0) (p .0 ∙ sym (q .0))) (together (y .1) (z .1) (p .1 ∙ sym (q .1)) refl))
+
+  pub tag-carried-Attributes-key : SettledAs 𝓤 tag-carried·Attributes·key.ended (List ℕ) (λ κs r. now r) (tag-carried·Attributes·key.clauses 𝓤 H A mem run)
+  tag-carried-Attributes-key κs a g y z = read-off 𝓤 (λ (b : List ℕ). (b, y .1))
+
+  pub tag-carried-Attributes-value : SettledAs 𝓤 tag-carried·Attributes·value.ended (List ℕ) (λ κs r. now r) (tag-carried·Attributes·value.clauses 𝓤 H A mem run)
+  tag-carried-Attributes-value κs a g y z = read-off 𝓤 (λ (b : List ℕ). (b, y .1))
 
   pub tag-carried-first : Settled 𝓤 tag-carried·first.ended (tag-carried·first.clauses 𝓤 H A mem run)
-  tag-carried-first κs a g y z = alone 𝓤 _ y z refl
+  tag-carried-first κs a g y z = follows 𝓤 (λ p q. together y z (numbers-apart (y .0) (z .0) (p ∙ sym q)) refl)
 
   pub export-cursor-place-from : Settled 𝓤 export-cursor·place-from.ended (export-cursor·place-from.clauses 𝓤 H A mem run)
   export-cursor-place-from κs a g y z = alone 𝓤 _ y z refl

@@ -1,9 +1,8 @@
 -- The listings that carry their resolver stand above the plain ones: the resolver stays, and all else is the plain listing's.
 use Prim.Native.Nat.{ℕ}
-use mathlib.Core.List.{List}
 use denote.Ref.{RefT, now}
 use Rattle.scope_table.specs.declared.NamespaceResolver.{NamespaceResolver}
-use Rattle.scope_listing.specs.Listing.{listedNumbers, bindingsOf, bindingsAtOf}
+use Rattle.scope_listing.specs.Listing.{bindingsOf, bindingsAtOf}
 use Rattle.scope_listing.specs.declared.Listing.{Listing}
 use Rattle.scope_listing_carried.specs.declared.NamespaceBindingsIter.{NamespaceBindingsIter}
 use Rattle.scope_listing_carried.specs.declared.NamespaceBindingsOfLevelIter.{NamespaceBindingsOfLevelIter}
@@ -23,15 +22,9 @@ listedOn it = bindingsOf (it .cursor) (now (it .resolver))
 abbrev pub listedOnLevel : NamespaceBindingsOfLevelIter → Listing
 listedOnLevel it = bindingsAtOf (it .level) (it .cursor) (now (it .resolver))
 
--- the numbers of what an iterator shows next, and the iterator after that
-abbrev pub shownNext : NamespaceBindingsIter → List ℕ
-shownNext it = listedNumbers (listedOn it .answer)
-
+-- the iterator after that
 abbrev pub afterShown : NamespaceBindingsIter → NamespaceBindingsIter
 afterShown it = record { resolver = it .resolver; cursor = listedOn it .place }
-
-abbrev pub shownNextAt : NamespaceBindingsOfLevelIter → List ℕ
-shownNextAt it = listedNumbers (listedOnLevel it .answer)
 
 abbrev pub afterShownAt : NamespaceBindingsOfLevelIter → NamespaceBindingsOfLevelIter
 afterShownAt it = record { resolver = it .resolver; cursor = listedOnLevel it .place; level = it .level }

@@ -8,7 +8,7 @@
 // No function over a struct that holds a reference is proved by itself: each one here has a walk of its code under proofs/.
 ghost use mathlib.Core.Path.{_≡_};
 ghost use Rattle.scope_listing.specs.Listing.{listedNumbers};
-ghost use Rattle.scope_listing_carried.specs.Listings.{inEffectOn, levelOn, shownNext, afterShown, shownNextAt, afterShownAt};
+ghost use Rattle.scope_listing_carried.specs.Listings.{inEffectOn, levelOn, listedOn, listedOnLevel, afterShown, afterShownAt};
 use scope_listing::Listed;
 use scope_table::NamespaceResolver;
 
@@ -52,7 +52,7 @@ pub fn bindings_of<'a>(
 impl<'a> NamespaceBindingsIter<'a> {
     // The next binding, and the iterator moves on past it: `next` of the `Iterator` that this is.
     pub fn next(&mut self) -> Listed
-        ensures { λ r. ⌜ (listedNumbers r ≡ shownNext (now (self .entry))) × (now (self .exit) ≡ afterShown (now (self .entry))) ⌝ }
+        ensures { λ r. ⌜ (listedNumbers r ≡ listedNumbers (listedOn (now (self .entry)) .answer)) × (now (self .exit) ≡ afterShown (now (self .entry))) ⌝ }
     {
         let found = scope_listing::bindings(*self.resolver, self.cursor);
         self.cursor = found.place;
@@ -63,7 +63,7 @@ impl<'a> NamespaceBindingsIter<'a> {
 impl<'a> NamespaceBindingsOfLevelIter<'a> {
     // The next binding of the level, and the iterator moves on past it: `next` of the `Iterator` that this is.
     pub fn next(&mut self) -> Listed
-        ensures { λ r. ⌜ (listedNumbers r ≡ shownNextAt (now (self .entry))) × (now (self .exit) ≡ afterShownAt (now (self .entry))) ⌝ }
+        ensures { λ r. ⌜ (listedNumbers r ≡ listedNumbers (listedOnLevel (now (self .entry)) .answer)) × (now (self .exit) ≡ afterShownAt (now (self .entry))) ⌝ }
     {
         let found = scope_listing::bindings_of(*self.resolver, self.level, self.cursor);
         self.cursor = found.place;

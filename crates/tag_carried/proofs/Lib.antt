@@ -1,3 +1,4 @@
 pub mod Parts
 pub mod Opens
 pub mod Loan
+pub mod Hands

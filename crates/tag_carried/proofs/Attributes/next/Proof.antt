@@ -1,4 +1,4 @@
--- `tag_carried::next` meets its contract: a walk of its MIR, by hand. The struct is lent by `&mut`. The borrow is opened; state and tag are read into locals and passed to `IterState::next`; the state that comes back is stored in the struct's field, the borrow is closed at the new struct, and the answer is returned.
+-- `tag_carried::Attributes::next` meets its contract: a walk of its MIR, by hand. The struct is lent by `&mut`. The borrow is opened; state and tag are read into locals and passed to `IterState::next`; the state that comes back is stored in the struct's field, the borrow is closed at the new struct, and the answer is returned.
 -- What the struct owns is Copy: one copy goes to the callee, and in the other the new state takes the place of the old one.
 -- Assumes nothing.
 use mathlib.Core.Path.{_≡_, refl, ap}
@@ -54,10 +54,10 @@ use Rattle.tag_carried.specs.declared.Attributes.{Attributes}
 use Rattle.tag_carried.proofs.Attributes.Laws as T′
 use Rattle.law_calls.proofs.Calls.{returned}
 use Rattle.tag_carried.proofs.Parts.{Row, D, L, tagVal, stateVals, heldVal, heldOwn, of, state-is, puts}
-use Rattle.tag_carried.proofs.next.Key.{name as #f}
-use Rattle.tag_carried.proofs.next as f
-use Rattle.tag_carried.proofs.next.Statement as stated
-use Rattle.tag_carried.proofs.next.Code as code
+use Rattle.tag_carried.proofs.Attributes.next.Key.{name as #f}
+use Rattle.tag_carried.proofs.Attributes.next as f
+use Rattle.tag_carried.proofs.Attributes.next.Statement as stated
+use Rattle.tag_carried.proofs.Attributes.next.Code as code
 
 -- `Attributes<'a>`, as the referent's place in the signature
 abbrev behind : Slot 2

@@ -1,4 +1,4 @@
--- `tag_carried::wrap` meets its contract: a walk of its MIR, by hand. `IterState::new` makes the state, and the struct is made of the tag and of it.
+-- `tag_carried::Attributes::wrap` meets its contract: a walk of its MIR, by hand. `IterState::new` makes the state, and the struct is made of the tag and of it.
 -- A `&[u8]` is Copy: what it owns is had twice, once for the tag at exit and once inside the result.
 -- Assumes nothing.
 use mathlib.Core.Path.{refl, ap}
@@ -48,10 +48,10 @@ use Rattle.tag_step.proofs.IterState.new.Met as g-thm
 use Rattle.tag_carried.specs.declared.Attributes.{Attributes}
 use Rattle.law_calls.proofs.Calls.{returned}
 use Rattle.tag_carried.proofs.Parts.{Row, D, L, tagVal, heldVal, tagOwn, heldOwn, of, told, makes}
-use Rattle.tag_carried.proofs.wrap.Key.{name as #f}
-use Rattle.tag_carried.proofs.wrap as f
-use Rattle.tag_carried.proofs.wrap.Statement as stated
-use Rattle.tag_carried.proofs.wrap.Code as code
+use Rattle.tag_carried.proofs.Attributes.wrap.Key.{name as #f}
+use Rattle.tag_carried.proofs.Attributes.wrap as f
+use Rattle.tag_carried.proofs.Attributes.wrap.Statement as stated
+use Rattle.tag_carried.proofs.Attributes.wrap.Code as code
 
 abbrev stayed : Stays (f.ended .signature .params) (f.ended .kept)
 stayed = (stay-none-slice (0 ∷ []) tt (plain (λ _. u8)) yes, (stay-none (λ _. usize) yes, (stay-none (λ _. bool) yes, tt)))
