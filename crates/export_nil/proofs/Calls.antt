@@ -9,10 +9,10 @@ use Rattle.scope_table.specs.declared.Head.{Head}
 use Rattle.scope_nil.specs.declared.HasNil.{HasNil}
 use Rattle.scope_nil.specs.declared.Left.{Left}
 use Rattle.scope_nil.specs.declared.Standing.{Standing}
-use Rattle.scope_nil.specs.Nil.{standsAt, leftBy, hasNilIn}
+use Rattle.scope_nil.specs.Nil.{nilNumber, standsAt, leftBy, hasNilIn}
 use Rattle.export_cursor.specs.Cursor.{placeFrom, settledOf, heldIn}
 use Rattle.export_memory.specs.Boundary.{headIn}
-use Rattle.export_nil.specs.Search.{nilNumber, found, foundOf, hasNilBy}
+use Rattle.export_nil.specs.Search.{found, foundOf, hasNilBy}
 
 module _ (text records head tag keyStarts keyEnds state : List ℕ) (html checks : Bool) where
   -- the iterator in these numbers, at a place

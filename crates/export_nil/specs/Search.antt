@@ -1,14 +1,13 @@
 -- A search for `nil` across the boundary: the resolver and the iterator stand in lent memory, and the answer is a number.
-use Prim.Native.Nat.{ℕ, _+_}
+use Prim.Native.Nat.{ℕ}
 use mathlib.Core.Bool.{Bool}
 use mathlib.Core.List.{List}
 use lib.ListN.{length, getD}
 use Rattle.tag_step.specs.declared.Place.{Place}
 use Rattle.tag_parts.specs.declared.Truth.{Truth}
 use Rattle.tag_parts.specs.declared.Truth.the-variants as Says
-use Rattle.scope_nil.specs.declared.Nil.{Nil}
 use Rattle.scope_nil.specs.declared.HasNil.{HasNil}
-use Rattle.scope_nil.specs.Nil.{nilNumbers, hasNilIn}
+use Rattle.scope_nil.specs.Nil.{nilNumber, hasNilIn}
 use Rattle.export_cursor.specs.Cursor.{placeFrom, settledOf, heldIn}
 use Rattle.export_memory.specs.Boundary.{headIn}
 
@@ -27,11 +26,6 @@ pub record Found : Type 0 where
 
 abbrev pub found : ℕ → (starts ends state : List ℕ) → Found
 found r starts ends state = record { result = r; starts = starts; ends = ends; state = state }
-
--- 0 a no and 1 a yes; a refusal has its own number. By `nilNumbers` a yes or a no has the number 0 and its value, and a
--- refusal its number and no value: so it is the sum of the two.
-unfoldable pub nilNumber : Nil → ℕ
-nilNumber a = getD (nilNumbers a) 0 0 + getD (nilNumbers a) 1 0
 
 -- What a search leaves: of the iterator's numbers the fourth is not touched.
 unfoldable pub foundOf : (state : List ℕ) (before : Place) → HasNil → Found

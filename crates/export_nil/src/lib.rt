@@ -1,12 +1,11 @@
 // What the static library exports of what stands on both the iterator and the resolver: `has_nil`; and what one value says.
 // Each function hands what it is lent on to the crate that has the rule, and answers by a number; none asks anything of
 // its caller.
-use scope_nil::Nil;
 use scope_nil::Standing;
 use tag_parts::Truth;
 ghost use mathlib.Core.Path.{_≡_};
 ghost use Rattle.tag_parts.specs.Parts.{truthOf};
-ghost use Rattle.export_nil.specs.Search.{truthNumber, nilNumber, found, hasNilBy};
+ghost use Rattle.export_nil.specs.Search.{truthNumber, found, hasNilBy};
 
 // The number of what a value says.
 fn truth_number(truth: Truth) -> usize
@@ -25,20 +24,6 @@ pub extern "C" fn mz_as_bool(value: &[u8]) -> usize
     ensures { λ r. ⌜ r ≡ truthNumber (truthOf (now (value .entry))) ⌝ }
 {
     truth_number(tag_parts::as_bool(value))
-}
-
-// The number of an answer: 0 a no and 1 a yes; a refusal has its own.
-fn nil_number(answer: Nil) -> usize
-    ensures { λ r. ⌜ r ≡ nilNumber answer ⌝ }
-{
-    match answer {
-        Nil::No => 0,
-        Nil::Yes => 1,
-        Nil::BadState => 7,
-        Nil::BadResolver => 20,
-        Nil::LendMore => 98,
-        Nil::WrongLength => 99,
-    }
 }
 
 // Whether an attribute from here on says that the element is nil: `scope_nil::has_nil_in`. The resolver is lent as to
@@ -73,5 +58,5 @@ pub extern "C" fn mz_has_nil<'k, 't>(
     let left = out.place;
     export_cursor::settle(state, place, left, out.count);
     let answer = out.answer;
-    nil_number(answer)
+    answer.number()
 }

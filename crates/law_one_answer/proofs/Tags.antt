@@ -12,6 +12,9 @@ use mathlib.Core.List.{List}
 use lib.ListN.{getD}
 use denote.Ref.{now}
 use Rattle.law_one_answer.specs.Settled.{Settled, SettledAs}
+use Rattle.name.specs.Bind.{namedNumbers}
+use Rattle.name.specs.declared.NamedCheck.{NamedCheck}
+use Rattle.name.proofs.Verdicts.{named-apart}
 use Rattle.tag_step.specs.Next.{Reading}
 use Rattle.tag_step.specs.Lent.{Taken, Took, Short, taken}
 use Rattle.tag_step.specs.declared.Outcome.{Outcome}
@@ -19,7 +22,7 @@ use Rattle.tag_step.specs.declared.Stepped.{Stepped}
 use Rattle.tag_step.specs.declared.Stepped.the-variants.{Made, LendMore}
 use Rattle.tag_batch.specs.Batch.{Batched}
 use Rattle.tag_batch.specs.declared.Five.{Five}
-use Rattle.law_one_answer.proofs.Ends.{follows, together, alone, read-off}
+use Rattle.law_one_answer.proofs.Ends.{follows, together, alone, read-off, by-numbers}
 use Rattle.scan.proofs.is_whitespace as scan·is-whitespace
 use Rattle.scan.proofs.ends_key as scan·ends-key
 use Rattle.scan.proofs.whitespace_from as scan·whitespace-from
@@ -169,7 +172,7 @@ module _ {M : Type 1} (𝓤 : URA M) (H : Heap 𝓤) (A : Atoms 𝓤) (mem : Mem
   name-declared-prefix κs a g y z = read-off 𝓤 (λ (bytes : List ℕ). (bytes, y .1))
 
   pub name-check-named : Settled 𝓤 name·check-named.ended (name·check-named.clauses 𝓤 H A mem run)
-  name-check-named κs a g y z = alone 𝓤 _ y z refl
+  name-check-named κs a g y z = by-numbers 𝓤 namedNumbers named-apart (λ (x : NamedCheck). (x, y .1)) (y .0) (z .0)
 
   pub name-verdict-named : Settled 𝓤 name·verdict-named.ended (name·verdict-named.clauses 𝓤 H A mem run)
   name-verdict-named κs a g y z = alone 𝓤 _ y z refl

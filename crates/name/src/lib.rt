@@ -7,7 +7,7 @@ ghost use mathlib.Core.Path.{_≡_};
 ghost use Rattle.name.specs.Split.{colonAt, colonOf, prefixOf, localOf, partsOf};
 ghost use Rattle.name.specs.Reserved.{isXml, isXmlns, isXmlUri, isXmlnsUri};
 ghost use Rattle.name.specs.Declares.{declaresOf, declaresNumber, declaredPrefix};
-ghost use Rattle.name.specs.Bind.{reservedBind};
+ghost use Rattle.name.specs.Bind.{reservedBind, namedNumbers};
 ghost use Rattle.name.specs.Verdict.{verdictNamed, verdictOf, verdictNumber};
 
 // Where the first colon of a name is. `:a` has one at 0, so its prefix is there and empty; `a` has none, and no prefix.
@@ -224,7 +224,7 @@ pub fn declared_prefix(name: &[u8]) -> &[u8]
 // What the reserved prefixes and URIs say of a named declaration: the `Named` arms of `NamespaceResolver::add`,
 // src/name.rs, in their order.
 pub fn check_named(prefix: &[u8], value: &[u8]) -> NamedCheck
-    ensures { λ r. ⌜ r ≡ reservedBind (now (prefix .entry)) (now (value .entry)) ⌝ }
+    ensures { λ r. ⌜ namedNumbers r ≡ namedNumbers (reservedBind (now (prefix .entry)) (now (value .entry))) ⌝ }
 {
     if is_xml(prefix) {
         if is_xml_uri(value) {

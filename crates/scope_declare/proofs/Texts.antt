@@ -10,7 +10,7 @@ use lib.ListN.{length, take, getD}
 use lib.Seq.{take-all}
 use Rattle.scan.specs.First.{pick}
 use Rattle.scan.specs.Bytes.{part}
-use Rattle.name.specs.Bind.{reservedBind, numberOf, refusedText}
+use Rattle.name.specs.Bind.{reservedBind, namedNumbers, numberOf, refusedText}
 use Rattle.name.specs.declared.Declares.{Declares}
 use Rattle.name.specs.declared.Declares.the-variants.{Nothing, Default, Named}
 use Rattle.name.specs.declared.NamedCheck.{NamedCheck}
@@ -78,7 +78,7 @@ add-holds d p v x = by (validOf x) where
 
 -- And a named declaration that is refused so has that answer, by its number.
 pub add-refuses : (p v : List ℕ) (x : NamespaceResolver) → validOf x ≡ true → (numberOf (reservedBind p v) ≡ 0 → ⊥) → getD (changeNumbers (addOf Named p v x .answer)) 0 0 ≡ numberOf (reservedBind p v)
-unfolding addOf declareOf judgeOf namedOf settleOf numberOf changeNumbers
+unfolding addOf declareOf judgeOf namedOf settleOf namedNumbers changeNumbers
 add-refuses p v x ok n = rw ok (by (reservedBind p v) n) where
   by : (k : NamedCheck) → (numberOf k ≡ 0 → ⊥) → getD (changeNumbers (settleOf whole (namedOf k p (wholly p v)) p v x .answer)) 0 0 ≡ numberOf k
   by Check.Fine n = absurd (n refl)

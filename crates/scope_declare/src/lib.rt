@@ -15,6 +15,7 @@ use scope_table::Outcome;
 ghost use mathlib.Core.Path.{_≡_};
 ghost use Prim.Native.Nat.{_-_};
 ghost use lib.ListN.{length};
+ghost use Rattle.scope_table.specs.Answer.{numberedChange};
 ghost use Rattle.scope_table.specs.Lent.{given, lentOf};
 ghost use Rattle.scope_change.specs.Change.{levelOf};
 ghost use Rattle.scope_change.specs.Asked.{CanAppend};
@@ -163,7 +164,7 @@ pub fn add<'a>(
     prefix: &'a [u8],
     value: &'a [u8],
 ) -> Changed
-    ensures { λ c. ⌜ c ≡ addOf declares (now (prefix .entry)) (now (value .entry)) r ⌝ }
+    ensures { λ c. ⌜ numberedChange c ≡ numberedChange (addOf declares (now (prefix .entry)) (now (value .entry)) r) ⌝ }
 {
     let mut text = r.text;
     let mut records = r.records;
@@ -183,7 +184,7 @@ pub fn add<'a>(
 
 // `NamespaceResolver::set_level`, src/name.rs.
 pub fn set_level(r: NamespaceResolver, to: u16) -> Changed
-    ensures { λ c. ⌜ c ≡ levelOf to r ⌝ }
+    ensures { λ c. ⌜ numberedChange c ≡ numberedChange (levelOf to r) ⌝ }
 {
     let mut text = r.text;
     let mut records = r.records;
@@ -203,7 +204,7 @@ pub fn set_level(r: NamespaceResolver, to: u16) -> Changed
 
 // `NamespaceResolver::pop`, src/name.rs.
 pub fn pop(r: NamespaceResolver) -> Changed
-    ensures { λ c. ⌜ c ≡ popOf r ⌝ }
+    ensures { λ c. ⌜ numberedChange c ≡ numberedChange (popOf r) ⌝ }
 {
     let mut text = r.text;
     let mut records = r.records;

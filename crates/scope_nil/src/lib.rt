@@ -19,7 +19,7 @@ ghost use lib.ListN.{length, take};
 ghost use Rattle.scan.specs.Lists.{over};
 ghost use Rattle.scope_table.specs.Table.{resolverOf};
 ghost use Rattle.scope_lookup.specs.Inside.{Inside};
-ghost use Rattle.scope_nil.specs.Nil.{isNil, searched, wholeSearch, hasNilOf, hasNilIn, standsAt, leftBy, unmovedBy, Searchable, Resting};
+ghost use Rattle.scope_nil.specs.Nil.{nilNumber, numberedNil, isNil, searched, wholeSearch, hasNilOf, hasNilIn, standsAt, leftBy, unmovedBy, Searchable, Resting};
 
 // Whether a tag has a `nil` that is true: the crate's bool, and the refusals of what it is asked with.
 pub enum Nil {
@@ -35,6 +35,22 @@ pub enum Nil {
     LendMore,
     // 99: what the head says is in use is not lent, or more than a capacity is; nothing is changed
     WrongLength,
+}
+
+impl Nil {
+    // As a number, for an exported function, which hands out no enum.
+    pub fn number(self) -> usize
+        ensures { λ r. ⌜ r ≡ nilNumber self ⌝ }
+    {
+        match self {
+            Nil::No => 0,
+            Nil::Yes => 1,
+            Nil::BadState => 7,
+            Nil::BadResolver => 20,
+            Nil::LendMore => 98,
+            Nil::WrongLength => 99,
+        }
+    }
 }
 
 // The answer, and the iterator that it leaves: after the attribute that was a yes, or after the end.
@@ -227,7 +243,7 @@ pub fn has_nil_in<'k, 't>(
 
 // `Attributes::has_nil`, src/events/attributes.rs: whether an attribute from here on says that the element is nil.
 pub fn has_nil(state: IterState, tag: &[u8], resolver: NamespaceResolver) -> HasNil
-    ensures { λ r. ⌜ r ≡ hasNilOf (now (tag .entry)) state resolver ⌝ }
+    ensures { λ r. ⌜ numberedNil r ≡ numberedNil (hasNilOf (now (tag .entry)) state resolver) ⌝ }
 {
     let html = state.html;
     let checks = state.check_duplicates;
