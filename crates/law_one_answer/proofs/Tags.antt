@@ -55,12 +55,9 @@ use Rattle.tag_keys.proofs.holds as tag-keys·holds
 use Rattle.tag_keys.proofs.check_for_duplicates as tag-keys·check-for-duplicates
 use Rattle.tag_keys.proofs.record_key as tag-keys·record-key
 use Rattle.tag_step.proofs.good_in as tag-step·good-in
-use Rattle.tag_step.proofs.state_good as tag-step·state-good
 use Rattle.tag_step.proofs.step_in as tag-step·step-in
-use Rattle.tag_step.proofs.step_lent as tag-step·step-lent
 use Rattle.tag_step.proofs.step_unchecked as tag-step·step-unchecked
 use Rattle.tag_step.proofs.clear as tag-step·clear
-use Rattle.tag_step.proofs.next_lent as tag-step·next-lent
 use Rattle.tag_step.proofs.IterState.new as tag-step·IterState·new
 use Rattle.tag_step.proofs.IterState.with_checks as tag-step·IterState·with-checks
 use Rattle.tag_step.proofs.IterState.next as tag-step·IterState·next
@@ -195,24 +192,15 @@ module _ {M : Type 1} (𝓤 : URA M) (H : Heap 𝓤) (A : Atoms 𝓤) (mem : Mem
   pub tag-step-good-in : Settled 𝓤 tag-step·good-in.ended (tag-step·good-in.clauses 𝓤 H A mem run)
   tag-step-good-in κs a g y z = alone 𝓤 _ y z refl
 
-  pub tag-step-state-good : Settled 𝓤 tag-step·state-good.ended (tag-step·state-good.clauses 𝓤 H A mem run)
-  tag-step-state-good κs a g y z = alone 𝓤 _ y z refl
-
   pub tag-step-step-in : Settled 𝓤 tag-step·step-in.ended (tag-step·step-in.clauses 𝓤 H A mem run)
   tag-step-step-in κs a g y z = follows 𝓤 (λ p q. ap (λ (x : Stepped × List ℕ × List ℕ). (x .0, (tt, (x .1, (x .2, (tt, (tt, (tt, (tt, tt)))))))))
       (sym (step-read (y .0) (y .1 .1 .0) (y .1 .1 .1 .0) _) ∙ ap stepRead (p ∙ sym q) ∙ step-read (z .0) (z .1 .1 .0) (z .1 .1 .1 .0) _))
-
-  pub tag-step-step-lent : Settled 𝓤 tag-step·step-lent.ended (tag-step·step-lent.clauses 𝓤 H A mem run)
-  tag-step-step-lent κs a g y z = read-off 𝓤 (λ (x : Reading). (outcome x, (tt, (x .keys .starts, (x .keys .ends, (tt, (tt, (tt, (tt, tt)))))))))
 
   pub tag-step-step-unchecked : Settled 𝓤 tag-step·step-unchecked.ended (tag-step·step-unchecked.clauses 𝓤 H A mem run)
   tag-step-step-unchecked κs a g y z = alone 𝓤 _ y z refl
 
   pub tag-step-clear : Settled 𝓤 tag-step·clear.ended (tag-step·clear.clauses 𝓤 H A mem run)
   tag-step-clear κs a g y z = follows 𝓤 (λ p q. together y z refl (together (y .1) (z .1) (p ∙ sym q) refl))
-
-  pub tag-step-next-lent : Settled 𝓤 tag-step·next-lent.ended (tag-step·next-lent.clauses 𝓤 H A mem run)
-  tag-step-next-lent κs a g y z = read-off 𝓤 (λ (x : Reading). (outcome x, (tt, (x .keys .starts, (x .keys .ends, (tt, (tt, (tt, (tt, tt)))))))))
 
   pub tag-step-IterState-new : Settled 𝓤 tag-step·IterState·new.ended (tag-step·IterState·new.clauses 𝓤 H A mem run)
   tag-step-IterState-new κs a g y z = alone 𝓤 _ y z refl

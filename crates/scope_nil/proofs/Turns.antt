@@ -20,18 +20,17 @@ use Rattle.tag_step.specs.declared.Start.{Start}
 use Rattle.tag_step.specs.declared.Start.the-variants.{From, Ended}
 use Rattle.tag_step.specs.declared.Answer.{Answer}
 use Rattle.tag_step.specs.declared.Answer.the-variants.{End, DoubleQ, SingleQ, Unquoted, Empty, ExpectedEq, ExpectedValue, UnquotedValue, ExpectedQuote, Duplicated, KeyTableFull, BadState}
-use Rattle.tag_step.specs.declared.Outcome.{Outcome}
 use Rattle.tag_step.specs.declared.IterState.{IterState}
 use Rattle.tag_step.specs.declared.Step.{Step}
 use Rattle.tag_parts.specs.declared.Truth.{Truth}
 use Rattle.tag_parts.specs.declared.Truth.the-variants.{Yes, No, Neither}
 use Rattle.tag_step.specs.Read.{recoverOf}
-use Rattle.tag_step.specs.Next.{Ready, lent, made, stepOf, keysOf, stateGood, noKeys, badReading, leaves, nextOf, lentState}
+use Rattle.tag_step.specs.Next.{keysOf, stateGood, noKeys, badReading, leaves, nextOf, lentState}
 use Rattle.tag_step.specs.Run.{isEnd}
 use Rattle.tag_parts.specs.Parts.{keyPart, valuePart, truthOf}
 use Rattle.tag_step.proofs.Answer as A
 use Rattle.tag_parts.proofs.Truth as T
-use Rattle.tag_step.proofs.Whole.{lent-step, next-bad, next-steps, next-ready}
+use Rattle.tag_step.proofs.Whole.{next-bad, next-steps}
 use Rattle.tag_step.proofs.Good.{Sized, next-stays-good, next-sized}
 use Rattle.tag_step.proofs.Run.{todo, todo-falls}
 use Rattle.scope_table.specs.Records.{recordAt}
@@ -148,24 +147,16 @@ pub says-by : (x : NamespaceResolver) (s : List ℕ) (a : Answer) (key value : L
 unfolding saysNil
 says-by x s a key value b t k v e h = rw (sym k, sym v) (sym e ∙ h)
 
--- A step on lent tables leaves an iterator as good.
-module _ (s : List ℕ) (place : Place) (html checks : Bool) (starts ends : List ℕ) (count : ℕ) (z : Sized (lentState place html checks starts ends count)) (g : stateGood s (lentState place html checks starts ends count) ≡ true) where
-  pub lent-ready : Ready s checks (lent starts ends count) place
-  unfolding keysOf
-  lent-ready = next-ready s (lentState place html checks starts ends count) g (z .starts) (z .ends)
+-- The next answer leaves an iterator as good.
+module _ (s : List ℕ) (st : IterState) (z : Sized st) (g : stateGood s st ≡ true) (a : Answer) (after : IterState) (step : record { answer = a; state = after } ≡ nextOf s st) where
+  pub lent-good : stateGood s after ≡ true
+  lent-good = subst (λ (y : Step). stateGood s (y .state) ≡ true) (sym step) (next-stays-good s st z)
 
-  module _ (r : Outcome) (starts' ends' : List ℕ) (e : made r starts' ends' ≡ stepOf s html checks (lent starts ends count) place) where
-    step : record { answer = r .answer; state = lentState (r .place) html checks starts' ends' (r .count) } ≡ nextOf s (lentState place html checks starts ends count)
-    step = lent-step s place html checks starts ends count g r starts' ends' e
+  pub lent-sized : Sized after
+  lent-sized = subst (λ (y : Step). Sized (y .state)) (sym step) (next-sized s st z)
 
-    pub lent-good : stateGood s (lentState (r .place) html checks starts' ends' (r .count)) ≡ true
-    lent-good = subst (λ (y : Step). stateGood s (y .state) ≡ true) (sym step) (next-stays-good s (lentState place html checks starts ends count) z)
-
-    pub lent-sized : Sized (lentState (r .place) html checks starts' ends' (r .count))
-    lent-sized = subst (λ (y : Step). Sized (y .state)) (sym step) (next-sized s (lentState place html checks starts ends count) z)
-
-    pub lent-falls : isEnd (r .answer) ≡ false → unread s (lentState (r .place) html checks starts' ends' (r .count)) < unread s (lentState place html checks starts ends count)
-    lent-falls = subst (λ (y : Step). isEnd (y .answer) ≡ false → unread s (y .state) < unread s (lentState place html checks starts ends count)) (sym step) (next-falls s (lentState place html checks starts ends count) g)
+  pub lent-falls : isEnd a ≡ false → unread s after < unread s st
+  lent-falls = subst (λ (y : Step). isEnd (y .answer) ≡ false → unread s (y .state) < unread s st) (sym step) (next-falls s st g)
 
 -- `has_nil`: 20, then 7, then the search.
 module _ (s : List ℕ) (st : IterState) (x : NamespaceResolver) where

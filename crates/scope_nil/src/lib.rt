@@ -13,6 +13,7 @@ use tag_parts::Truth;
 use tag_step::Answer;
 use tag_step::IterState;
 use tag_step::Place;
+use tag_step::Stepped;
 ghost use mathlib.Core.Path.{_≡_};
 ghost use Prim.Native.Nat.{_≤_};
 ghost use lib.ListN.{length, take};
@@ -119,7 +120,15 @@ fn search<'k, 't>(
     let mut stand = at.place;
     let mut recorded = at.count;
     loop {
-        let made = tag_step::step_lent(tag, starts, ends, html, checks, recorded, stand);
+        let step = tag_step::step_in(tag, starts, ends, html, checks, recorded, stand);
+        // Tables of full size have a place for every key: the other case never comes.
+        let Stepped::Made(made) = step else {
+            return Left {
+                answer: Nil::LendMore,
+                place: stand,
+                count: recorded,
+            };
+        };
         let answer = made.answer;
         stand = made.place;
         recorded = made.count;

@@ -31,7 +31,7 @@ use Rattle.tag_step.specs.declared.Outcome.{Outcome}
 use Rattle.tag_step.specs.declared.Stepped.{Stepped}
 use Rattle.tag_step.specs.declared.Stepped.the-variants.{Made, LendMore}
 use Rattle.tag_step.specs.Read.{found, recoverOf, keyAt}
-use Rattle.tag_step.specs.Next.{Keys, Reading, reading, lent, checkOf, keptBy, bareBy, bareTo, bareOf, valuedBy, valuedTo, valuedOf, readKey, readAt, stepFrom, stepOf, placeAt, placeGood, goodOf, Stands, made, keysOf, lentState, stateGood, noKeys, badReading, leaves, nextOf}
+use Rattle.tag_step.specs.Next.{Keys, Reading, reading, lent, checkOf, keptBy, bareBy, bareTo, bareOf, valuedBy, valuedTo, valuedOf, readKey, readAt, stepFrom, stepOf, placeAt, placeGood, made, keysOf, lentState, stateGood, noKeys, badReading, leaves, nextOf}
 use Rattle.tag_step.specs.Lent.{padKeys, wholeOf, wholeNext, needsMore, steppedOf, Taken, Took, Short, taken, takenOn}
 use Rattle.tag_step.proofs.Good.{Sized, step-stands, next-stays-good, next-sized}
 use Rattle.tag_step.proofs.Taken.{Held, step-keeps-held}
@@ -298,12 +298,6 @@ module _ (s : List ℕ) (place : Place) (html checks : Bool) (starts ends : List
 
       pub more-ends : ends' ≡ ends
       more-ends = is-short m .2
-
--- a good state stands, as `step_in` asks
-pub good-stands : (s : List ℕ) (keys : Keys) (place : Place) → goodOf s keys place ≡ true → Stands s keys place
-good-stands s keys place g =
-    let b = both (tableGood (length s) (keys .starts) (keys .ends) (keys .count)) (placeGood s place) g in
-    record { inside = table-in (length s) (keys .starts) (keys .ends) (keys .count) (b .0); stands = b .1 }
 
 -- Tables of full size are the iterator's own: no place is ever lacking, and a step is `nextOf`.
 

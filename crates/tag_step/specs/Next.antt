@@ -5,11 +5,11 @@ use mathlib.Core.Path.{_≡_}
 use mathlib.Core.Bool.{Bool, true, false, _&&_}
 use mathlib.Core.List.{List}
 use lib.ListN.{length, replicate}
-use lib.Dec.{ltb, leb}
+use lib.Dec.{ltb}
 use Rattle.scan.specs.First.{pick}
 use Rattle.tag_keys.specs.declared.Checked.{Checked}
 use Rattle.tag_keys.specs.declared.Checked.the-variants.{Fresh, Same, Full}
-use Rattle.tag_keys.specs.Keys.{capacity, KeysIn, Room, tableGood, checkedOf, writtenBy, countBy}
+use Rattle.tag_keys.specs.Keys.{capacity, KeysIn, tableGood, checkedOf, writtenBy, countBy}
 use Rattle.tag_step.specs.declared.Span.{Span}
 use Rattle.tag_step.specs.declared.Place.{Place}
 use Rattle.tag_step.specs.declared.Place.the-variants.{Done, Next, SkipValue, SkipEqValue}
@@ -146,12 +146,6 @@ pub record Stands (s : List ℕ) (keys : Keys) (place : Place) : Type 0 where
   pub inside : KeysIn (keys .starts) (keys .ends) (keys .count) (length s)
   pub stands : placeGood s place ≡ true
 
--- and on tables of full size for room while checks are on
-pub record Ready (s : List ℕ) (checks : Bool) (keys : Keys) (place : Place) : Type 0 where
-  pub inside : KeysIn (keys .starts) (keys .ends) (keys .count) (length s)
-  pub room : Room checks (keys .starts) (keys .ends)
-  pub stands : placeGood s place ≡ true
-
 -- no recorded keys, every place of the tables zero
 unfoldable pub noKeys : Keys
 noKeys = record { starts = replicate capacity 0; ends = replicate capacity 0; count = 0 }
@@ -181,26 +175,6 @@ leaves st x =
 unfoldable pub nextOf : List ℕ → IterState → Step
 nextOf s st =
     leaves st (pick (stateGood s st) (stepOf s (st .html) (st .«check_duplicates») (keysOf st) (st .place)) badReading)
-
--- `next` on lent tables, of any number of places.
-
--- While checks are on, each table has a place for every key that may be recorded.
-unfoldable pub roomFor : Bool → Keys → Bool
-roomFor checks keys = pick checks (leb capacity (length (keys .starts)) && leb capacity (length (keys .ends))) true
-
--- Tables without that room are no state of an iterator: 7 is for them too. A state of its own always has it.
-unfoldable pub lentGood : List ℕ → Bool → Keys → Place → Bool
-lentGood s checks keys place =
-    (tableGood (length s) (keys .starts) (keys .ends) (keys .count) && placeGood s place) && roomFor checks keys
-
--- 7 leaves all zero.
-unfoldable pub cleared : Keys → Keys
-cleared keys = lent (replicate (length (keys .starts)) 0) (replicate (length (keys .ends)) 0) 0
-
--- On tables of 256 places this is `nextOf` (`next-in`, proofs/Whole).
-unfoldable pub nextIn : List ℕ → Bool → Bool → Keys → Place → Reading
-nextIn s html checks keys place =
-    pick (lentGood s checks keys place) (stepOf s html checks keys place) (reading (found BadState Done) (cleared keys))
 
 -- an iterator that stands at a place, with no recorded keys
 abbrev pub standing : Place → Bool → Bool → IterState

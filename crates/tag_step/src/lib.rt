@@ -1,8 +1,8 @@
 // The attribute iterator over the bytes of a start tag.
 //
 // Ports `IterState` of src/events/attributes.rs, with `with_checks` of `Attributes`. What it answers is `nextOf` of
-// specs/Next.antt, for every tag and every state. The work is done on tables that the caller lends (`step_lent`, and
-// `next_lent` with the test of refusal 7 before it); `IterState::next` lends its own.
+// specs/Next.antt, for every tag and every state. The work is done on tables that the caller lends (`step_in`,
+// after the test of refusal 7, `good_in`); `IterState::next` lends its own.
 //
 // The names are the crate's. Its `keys: Vec<Range<usize>>` is two tables and a count here, its `Option` and `Result` an
 // enum for each kind of answer. Documents number the refusals: `numbersOf` (specs/Numbers.antt) gives an answer's number
@@ -12,7 +12,7 @@ ghost use mathlib.Core.Bool.{true};
 ghost use Prim.Native.Nat.{_+_, _^_, _<_, _≤_};
 ghost use lib.ListN.{length, replicate};
 ghost use Rattle.tag_step.specs.Read.{isQuote, skipOf, skipEqValueOf, recoverOf, keyAt, closedOf, quotedOf, valueAt};
-ghost use Rattle.tag_step.specs.Next.{Stands, Ready, lent, made, placeAt, placeGood, goodOf, stepOf, lentGood, nextIn, nextOf, uncheckedOf, opened, withChecks};
+ghost use Rattle.tag_step.specs.Next.{Stands, lent, placeAt, placeGood, goodOf, nextOf, uncheckedOf, opened, withChecks};
 ghost use Rattle.tag_step.specs.Lent.{taken, bareIn, valuedIn, stepIn};
 ghost use Rattle.tag_keys.specs.Keys.{KeysIn};
 use tag_keys::CAPACITY;
@@ -340,29 +340,6 @@ pub fn good_in<'a>(
     place_good(tag, place)
 }
 
-// The same of tables that have to be of full size while checks are on.
-pub fn state_good<'a>(
-    tag: &[u8],
-    starts: &'a [usize],
-    ends: &'a [usize],
-    checks: bool,
-    count: usize,
-    place: Place,
-) -> bool
-    ensures { λ r. ⌜ r ≡ lentGood (now (tag .entry)) checks (lent (now (starts .entry)) (now (ends .entry)) count) place ⌝ }
-{
-    if !good_in(tag, starts, ends, count, place) {
-        return false;
-    }
-    if !checks {
-        return true;
-    }
-    if starts.len() < CAPACITY {
-        return false;
-    }
-    CAPACITY <= ends.len()
-}
-
 // A key with no value: `IterState::key_only`. HTML mode checks it as any other; XML mode refuses it and does not.
 //
 //     key  key2="v"
@@ -491,30 +468,6 @@ pub fn step_in<'a>(
     }
 }
 
-// The same on tables with room for every key, which never lack a place.
-pub fn step_lent<'a>(
-    tag: &[u8],
-    starts: &'a mut [usize],
-    ends: &'a mut [usize],
-    html: bool,
-    checks: bool,
-    count: usize,
-    place: Place,
-) -> Outcome
-    requires { ⌜ Ready (now tag) checks (lent (now starts) (now ends) count) place ⌝ }
-    ensures { λ r. ⌜ made r (now (starts .exit)) (now (ends .exit)) ≡ stepOf (now (tag .entry)) html checks (lent (now (starts .entry)) (now (ends .entry)) count) place ⌝ }
-{
-    let step = step_in(tag, starts, ends, html, checks, count, place);
-    match step {
-        Stepped::Made(made) => made,
-        Stepped::LendMore => Outcome {
-            answer: Answer::BadState,
-            place: place,
-            count: count,
-        },
-    }
-}
-
 // One step with checks off, which neither compares nor records a key, and so wants no tables: what a reader calls that takes
 // every attribute as it comes.
 pub fn step_unchecked(tag: &[u8], html: bool, place: Place) -> Found
@@ -523,12 +476,21 @@ pub fn step_unchecked(tag: &[u8], html: bool, place: Place) -> Found
 {
     let mut starts = [0usize; 0];
     let mut ends = [0usize; 0];
-    let made = step_lent(tag, &mut starts, &mut ends, html, false, 0, place);
-    let answer = made.answer;
-    let left = made.place;
-    Found {
-        answer: answer,
-        place: left,
+    let step = step_in(tag, &mut starts, &mut ends, html, false, 0, place);
+    match step {
+        Stepped::Made(made) => {
+            let answer = made.answer;
+            let left = made.place;
+            Found {
+                answer: answer,
+                place: left,
+            }
+        }
+        // Never: no key is due to be recorded.
+        Stepped::LendMore => Found {
+            answer: Answer::End,
+            place: place,
+        },
     }
 }
 
@@ -541,30 +503,6 @@ pub fn clear(table: &mut [usize])
         table[i] = 0;
         i += 1;
     }
-}
-
-// One step on lent tables, whatever they hold: refusal 7 comes first.
-pub fn next_lent<'a>(
-    tag: &[u8],
-    starts: &'a mut [usize],
-    ends: &'a mut [usize],
-    html: bool,
-    checks: bool,
-    count: usize,
-    place: Place,
-) -> Outcome
-    ensures { λ r. ⌜ made r (now (starts .exit)) (now (ends .exit)) ≡ nextIn (now (tag .entry)) html checks (lent (now (starts .entry)) (now (ends .entry)) count) place ⌝ }
-{
-    if !state_good(tag, starts, ends, checks, count, place) {
-        clear(starts);
-        clear(ends);
-        return Outcome {
-            answer: Answer::BadState,
-            place: Place::Done,
-            count: 0,
-        };
-    }
-    step_lent(tag, starts, ends, html, checks, count, place)
 }
 
 impl IterState {
@@ -598,8 +536,29 @@ impl IterState {
         let checks = self.check_duplicates;
         let mut starts = self.starts;
         let mut ends = self.ends;
+        let count = self.count;
         let place = self.place;
-        let made = next_lent(tag, &mut starts, &mut ends, html, checks, self.count, place);
+        if !good_in(tag, &starts, &ends, count, place) {
+            return Step {
+                answer: Answer::BadState,
+                state: IterState {
+                    place: Place::Done,
+                    html: html,
+                    check_duplicates: checks,
+                    starts: [0; CAPACITY],
+                    ends: [0; CAPACITY],
+                    count: 0,
+                },
+            };
+        }
+        let step = step_in(tag, &mut starts, &mut ends, html, checks, count, place);
+        // Tables of full size have a place for every key that is due to be recorded: the other case never comes.
+        let Stepped::Made(made) = step else {
+            return Step {
+                answer: Answer::End,
+                state: self,
+            };
+        };
         let answer = made.answer;
         let left = made.place;
         Step {

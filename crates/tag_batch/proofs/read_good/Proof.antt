@@ -7,7 +7,7 @@ use borrow.Author.Needs.{needs}
 use lib.ListN.{length}
 use Rattle.scan.proofs.Lists.{over-length}
 use Rattle.tag_step.specs.Next.{lent, stateGood, lentState}
-use Rattle.tag_step.proofs.Lent.{good-stands}
+use Rattle.tag_step.proofs.Whole.{good-stands}
 use Rattle.tag_batch.specs.Batch.{listed}
 use Rattle.tag_batch.proofs.Turns.{Turn, turn-first, turn-full, room-fits, code-end, code-other, goes-short, goes-end, goes-on, after-starts, after-ends}
 use Rattle.tag_batch.proofs.read_good.Statement.{statement}
