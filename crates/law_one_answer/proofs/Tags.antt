@@ -67,6 +67,8 @@ use Rattle.tag_parts.proofs.as_bool as tag-parts·as-bool
 use Rattle.tag_batch.proofs.Why.number as tag-batch·Why·number
 use Rattle.tag_batch.proofs.numbers as tag-batch·numbers
 use Rattle.tag_batch.proofs.read_batch as tag-batch·read-batch
+use Rattle.tag_step.specs.Numbers.{numbersOf}
+use Rattle.tag_step.specs.declared.Answer.{Answer}
 use Rattle.tag_step.proofs.Numbers.{numbers-apart}
 use Rattle.tag_carried.proofs.Attributes.new as tag-carried·Attributes·new
 use Rattle.tag_carried.proofs.Attributes.html as tag-carried·Attributes·html
@@ -248,7 +250,7 @@ module _ {M : Type 1} (𝓤 : URA M) (H : Heap 𝓤) (A : Atoms 𝓤) (mem : Mem
   tag-carried-Attributes-value κs a g y z = read-off 𝓤 (λ (b : List ℕ). (b, y .1))
 
   pub tag-carried-first : Settled 𝓤 tag-carried·first.ended (tag-carried·first.clauses 𝓤 H A mem run)
-  tag-carried-first κs a g y z = follows 𝓤 (λ p q. together y z (numbers-apart (y .0) (z .0) (p ∙ sym q)) refl)
+  tag-carried-first κs a g y z = by-numbers 𝓤 numbersOf numbers-apart (λ (x : Answer). (x, y .1)) (y .0) (z .0)
 
   pub export-cursor-place-from : Settled 𝓤 export-cursor·place-from.ended (export-cursor·place-from.clauses 𝓤 H A mem run)
   export-cursor-place-from κs a g y z = alone 𝓤 _ y z refl

@@ -108,7 +108,7 @@ module _ (rows : ℕ → NamespaceBinding) (p : ℕ → Bool) where
 
 -- `bindings` and `bindings_of`, from place 0 on.
 
-past-on : (place j : ℕ) → pastBuiltIn place ≤ j → pastBuiltIn (suc j) ≡ suc j
+pub past-on : (place j : ℕ) → pastBuiltIn place ≤ j → pastBuiltIn (suc j) ≡ suc j
 unfolding pastBuiltIn
 past-on place j h =
     let two : 2 ≤ pastBuiltIn place = by (ltb place 2) refl in
