@@ -4,18 +4,10 @@ use mathlib.Core.Bool.{Bool}
 use mathlib.Core.List.{List}
 use lib.ListN.{length, getD}
 use Rattle.tag_step.specs.declared.Place.{Place}
-use Rattle.tag_parts.specs.declared.Truth.{Truth}
-use Rattle.tag_parts.specs.declared.Truth.the-variants as Says
 use Rattle.scope_nil.specs.declared.HasNil.{HasNil}
 use Rattle.scope_nil.specs.Nil.{nilNumber, hasNilIn}
 use Rattle.export_cursor.specs.Cursor.{placeFrom, settledOf, heldIn}
 use Rattle.export_memory.specs.Boundary.{headIn}
-
--- What a value says: 0 a no, 1 a yes, 2 neither.
-unfoldable pub truthNumber : Truth → ℕ
-truthNumber Says.No = 0
-truthNumber Says.Yes = 1
-truthNumber Says.Neither = 2
 
 -- what a call answers, and the iterator's arrays after it
 pub record Found : Type 0 where

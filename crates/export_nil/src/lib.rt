@@ -2,28 +2,16 @@
 // Each function hands what it is lent on to the crate that has the rule, and answers by a number; none asks anything of
 // its caller.
 use scope_nil::Standing;
-use tag_parts::Truth;
 ghost use mathlib.Core.Path.{_≡_};
-ghost use Rattle.tag_parts.specs.Parts.{truthOf};
-ghost use Rattle.export_nil.specs.Search.{truthNumber, found, hasNilBy};
-
-// The number of what a value says.
-fn truth_number(truth: Truth) -> usize
-    ensures { λ r. ⌜ r ≡ truthNumber truth ⌝ }
-{
-    match truth {
-        Truth::No => 0,
-        Truth::Yes => 1,
-        Truth::Neither => 2,
-    }
-}
+ghost use Rattle.tag_parts.specs.Parts.{truthOf, truthNumber};
+ghost use Rattle.export_nil.specs.Search.{found, hasNilBy};
 
 // What a value says: `tag_parts::as_bool`. 0 a no, 1 a yes, 2 neither.
 #[no_mangle]
 pub extern "C" fn mz_as_bool(value: &[u8]) -> usize
     ensures { λ r. ⌜ r ≡ truthNumber (truthOf (now (value .entry))) ⌝ }
 {
-    truth_number(tag_parts::as_bool(value))
+    tag_parts::as_bool(value).number()
 }
 
 // Whether an attribute from here on says that the element is nil: `scope_nil::has_nil_in`. The resolver is lent as to

@@ -15,6 +15,13 @@ use Rattle.law_one_answer.specs.Settled.{Settled, SettledAs}
 use Rattle.name.specs.Bind.{namedNumbers}
 use Rattle.name.specs.declared.NamedCheck.{NamedCheck}
 use Rattle.name.proofs.Verdicts.{named-apart}
+use Rattle.tag_keys.specs.Keys.{checkedNumbers}
+use Rattle.tag_keys.specs.declared.Checked.{Checked}
+use Rattle.tag_keys.proofs.Numbers.{checked-apart}
+use Rattle.tag_step.specs.Numbers.{numbersOf, numberedStep}
+use Rattle.tag_step.specs.declared.Answer.{Answer}
+use Rattle.tag_step.specs.declared.Step.{Step}
+use Rattle.tag_step.proofs.Numbers.{numbers-apart, step-apart}
 use Rattle.tag_step.specs.Next.{Reading}
 use Rattle.tag_step.specs.Lent.{Taken, Took, Short, taken}
 use Rattle.tag_step.specs.declared.Outcome.{Outcome}
@@ -61,15 +68,13 @@ use Rattle.tag_step.proofs.clear as tag-step·clear
 use Rattle.tag_step.proofs.IterState.new as tag-step·IterState·new
 use Rattle.tag_step.proofs.IterState.with_checks as tag-step·IterState·with-checks
 use Rattle.tag_step.proofs.IterState.next as tag-step·IterState·next
+use Rattle.tag_parts.proofs.Truth.number as tag-parts·Truth·number
 use Rattle.tag_parts.proofs.key_part as tag-parts·key-part
 use Rattle.tag_parts.proofs.value_part as tag-parts·value-part
 use Rattle.tag_parts.proofs.as_bool as tag-parts·as-bool
 use Rattle.tag_batch.proofs.Why.number as tag-batch·Why·number
 use Rattle.tag_batch.proofs.numbers as tag-batch·numbers
 use Rattle.tag_batch.proofs.read_batch as tag-batch·read-batch
-use Rattle.tag_step.specs.Numbers.{numbersOf}
-use Rattle.tag_step.specs.declared.Answer.{Answer}
-use Rattle.tag_step.proofs.Numbers.{numbers-apart}
 use Rattle.tag_carried.proofs.Attributes.new as tag-carried·Attributes·new
 use Rattle.tag_carried.proofs.Attributes.html as tag-carried·Attributes·html
 use Rattle.tag_carried.proofs.Attributes.with_checks as tag-carried·Attributes·with-checks
@@ -186,7 +191,7 @@ module _ {M : Type 1} (𝓤 : URA M) (H : Heap 𝓤) (A : Atoms 𝓤) (mem : Mem
   tag-keys-holds κs a g y z = alone 𝓤 _ y z refl
 
   pub tag-keys-check-for-duplicates : Settled 𝓤 tag-keys·check-for-duplicates.ended (tag-keys·check-for-duplicates.clauses 𝓤 H A mem run)
-  tag-keys-check-for-duplicates κs a g y z = alone 𝓤 _ y z refl
+  tag-keys-check-for-duplicates κs a g y z = by-numbers 𝓤 checkedNumbers checked-apart (λ (x : Checked). (x, y .1)) (y .0) (z .0)
 
   pub tag-keys-record-key : Settled 𝓤 tag-keys·record-key.ended (tag-keys·record-key.clauses 𝓤 H A mem run)
   tag-keys-record-key κs a g y z = follows 𝓤 (λ p q. together y z refl (together (y .1) (z .1) (p .0 ∙ sym (q .0)) (together (y .1 .1) (z .1 .1) (p .1 ∙ sym (q .1)) refl)))
@@ -211,7 +216,10 @@ module _ {M : Type 1} (𝓤 : URA M) (H : Heap 𝓤) (A : Atoms 𝓤) (mem : Mem
   tag-step-IterState-with-checks κs a g y z = alone 𝓤 _ y z refl
 
   pub tag-step-IterState-next : Settled 𝓤 tag-step·IterState·next.ended (tag-step·IterState·next.clauses 𝓤 H A mem run)
-  tag-step-IterState-next κs a g y z = alone 𝓤 _ y z refl
+  tag-step-IterState-next κs a g y z = by-numbers 𝓤 numberedStep step-apart (λ (x : Step). (x, y .1)) (y .0) (z .0)
+
+  pub tag-parts-Truth-number : Settled 𝓤 tag-parts·Truth·number.ended (tag-parts·Truth·number.clauses 𝓤 H A mem run)
+  tag-parts-Truth-number κs a g y z = alone 𝓤 _ y z refl
 
   pub tag-parts-key-part : SettledAs 𝓤 tag-parts·key-part.ended (List ℕ) (λ κs r. now r) (tag-parts·key-part.clauses 𝓤 H A mem run)
   tag-parts-key-part κs a g y z = read-off 𝓤 (λ (bytes : List ℕ). (bytes, y .1))

@@ -46,6 +46,12 @@ valuePart s (Duplicated this earlier) = []
 valuePart s (KeyTableFull this) = []
 valuePart s BadState = []
 
+-- what a value says, by its number, for a function that can hand out no enum
+abbrev pub truthNumber : Truth → ℕ
+truthNumber No = 0
+truthNumber Yes = 1
+truthNumber Neither = 2
+
 -- `1` and `true` yes, `0` and `false` no, else neither
 unfoldable pub truthOf : List ℕ → Truth
 truthOf v =

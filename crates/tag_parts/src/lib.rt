@@ -2,7 +2,7 @@
 //
 // Ports of `Attribute`, src/events/attributes.rs, its `key` and `value` as parts of the tag, and `as_bool`.
 ghost use mathlib.Core.Path.{_≡_};
-ghost use Rattle.tag_parts.specs.Parts.{spanPart, keyPart, valuePart, truthOf};
+ghost use Rattle.tag_parts.specs.Parts.{spanPart, keyPart, valuePart, truthOf, truthNumber};
 use tag_step::Answer;
 use tag_step::Span;
 
@@ -11,6 +11,19 @@ pub enum Truth {
     Yes,
     No,
     Neither,
+}
+
+impl Truth {
+    // As a number, for an exported function, which hands out no enum.
+    pub fn number(self) -> usize
+        ensures { λ r. ⌜ r ≡ truthNumber self ⌝ }
+    {
+        match self {
+            Truth::No => 0,
+            Truth::Yes => 1,
+            Truth::Neither => 2,
+        }
+    }
 }
 
 // The bytes that a span marks; none where it does not lie in the tag.

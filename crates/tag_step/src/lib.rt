@@ -11,6 +11,7 @@ ghost use mathlib.Core.Path.{_≡_};
 ghost use mathlib.Core.Bool.{true};
 ghost use Prim.Native.Nat.{_+_, _^_, _<_, _≤_};
 ghost use lib.ListN.{length, replicate};
+ghost use Rattle.tag_step.specs.Numbers.{numberedStep};
 ghost use Rattle.tag_step.specs.Read.{isQuote, skipOf, skipEqValueOf, recoverOf, keyAt, closedOf, quotedOf, valueAt};
 ghost use Rattle.tag_step.specs.Next.{Stands, lent, placeAt, placeGood, goodOf, nextOf, uncheckedOf, opened, withChecks};
 ghost use Rattle.tag_step.specs.Lent.{taken, bareIn, valuedIn, stepIn};
@@ -530,7 +531,7 @@ impl IterState {
 
     // One answer, and the state after it: `IterState::next`, for any state whatever.
     pub fn next(self, tag: &[u8]) -> Step
-        ensures { λ r. ⌜ r ≡ nextOf (now (tag .entry)) self ⌝ }
+        ensures { λ r. ⌜ numberedStep r ≡ numberedStep (nextOf (now (tag .entry)) self) ⌝ }
     {
         let html = self.html;
         let checks = self.check_duplicates;

@@ -1,7 +1,8 @@
 -- `tag_step::IterState::next` meets its contract: 7 first; then a step on its own tables, which have room for every key.
-use mathlib.Core.Path.{sym, _∙_}
+use mathlib.Core.Path.{sym, ap, _∙_}
 use borrow.Author.Needs.{needs}
 use borrow.Author.Tests.{not-true, not-false}
+use Rattle.tag_step.specs.Numbers.{numberedStep}
 use Rattle.tag_step.specs.Next.{stateGood, noKeys, badReading, leaves}
 use Rattle.tag_step.proofs.Whole.{good-stands, next-bad}
 use Rattle.tag_step.proofs.Good.{Sized, sized-next, sized-never}
@@ -23,7 +24,7 @@ good-in-requires c κs = search needs
 
 returns : tie.Need-returns
 unfolding stateGood leaves badReading noKeys
-returns c = next-bad (c .before .before .before .before .before .before .before .args .tag .now) (c .before .before .before .before .before .before .before .args .self) (sym (c .before .good-in .ensures) ∙ not-true _ (c .if1 .taken))
+returns c = ap numberedStep (next-bad (c .before .before .before .before .before .before .before .args .tag .now) (c .before .before .before .before .before .before .before .args .self) (sym (c .before .good-in .ensures) ∙ not-true _ (c .if1 .taken)))
 
 slice-aggregate-step-in : tie.Need-slice-aggregate-step-in
 slice-aggregate-step-in c = search needs
@@ -50,7 +51,7 @@ returns-3 : tie.Need-returns-3
 unfolding stateGood
 returns-3 c =
     let a = c .before .before .before .before .before .before .before .before .before .before .before .before .before .before .before .args in
-    sized-next (a .tag .now) (a .self) (sized (c .before .before .before .before .before .before .before .before .before .before .before .before .before .before .before)) (sym (c .before .before .before .before .before .before .before .before .before .good-in .ensures) ∙ not-false _ (c .before .before .before .before .before .before .before .before .if1 .left)) _ _ _ (c .before .before .before .before .before .step-in .ensures) _ (c .before .step .given .1)
+    ap numberedStep (sized-next (a .tag .now) (a .self) (sized (c .before .before .before .before .before .before .before .before .before .before .before .before .before .before .before)) (sym (c .before .before .before .before .before .before .before .before .before .good-in .ensures) ∙ not-false _ (c .before .before .before .before .before .before .before .before .if1 .left)) _ _ _ (c .before .before .before .before .before .step-in .ensures) _ (c .before .step .given .1))
 
 pub next-spec : {M : Type 1} → statement M
 next-spec =
