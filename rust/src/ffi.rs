@@ -139,7 +139,7 @@ pub fn as_bool(value: &str) -> usize {
 /// no other is looked at.
 #[derive(Clone)]
 pub struct Ahead {
-    /// The state, and the one before the answers in `out`.
+    /// The state, and the one before the answers in `out`, where there are any.
     state: State,
     before: State,
     filled: usize,
@@ -383,7 +383,6 @@ impl Tables {
     #[inline]
     pub(crate) const fn open(&mut self, pos: usize) {
         self.ahead.state = [1, pos, 0, 0];
-        self.ahead.before = self.ahead.state;
         self.ahead.filled = 0;
     }
 }

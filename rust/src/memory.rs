@@ -127,7 +127,7 @@ impl<const TEXT: usize, const BINDINGS: usize> Memory<TEXT, BINDINGS> {
     /// ```
     /// use mezzulidda::name::{Memory, NamespaceResolver};
     ///
-    /// let mut memory = Memory::<65536, 1026>::boxed();
+    /// let mut memory: Box<Memory> = Memory::boxed();
     /// let resolver = NamespaceResolver::new_in(&mut *memory);
     /// assert_eq!(resolver.level(), 0);
     /// ```

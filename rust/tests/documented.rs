@@ -6,6 +6,7 @@
 
 use mezzulidda as xml;
 use std::borrow::Cow;
+use std::hash::{BuildHasher, BuildHasherDefault, DefaultHasher};
 use xml::events::BytesStart;
 use xml::events::attributes::{Attr, AttrError, Attribute, Attributes};
 use xml::name::{
@@ -473,6 +474,9 @@ mod names {
         );
         assert_eq!(QName("a:x").prefix(), QName("a:y").prefix());
         assert_ne!(QName("a:x").prefix(), QName("b:x").prefix());
+        let hash = |name| BuildHasherDefault::<DefaultHasher>::new().hash_one(QName(name).prefix());
+        assert_eq!(hash("a:x"), hash("a:y"));
+        assert_ne!(hash("a:x"), hash("b:x"));
     }
 
     #[test]

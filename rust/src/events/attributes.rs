@@ -466,8 +466,8 @@ impl<'a, T: Kept> Iterator for Attributes<'a, T> {
 
     /// # Panics
     ///
-    /// As quick-xml's, where reading began inside a character and a key with it; and where the library is none
-    /// for [this crate](crate#panics).
+    /// As quick-xml's, where reading began inside a character and a key with it; and where the static library is
+    /// not one for [this crate](crate#panics).
     #[inline]
     fn next(&mut self) -> Option<Self::Item> {
         let answer = self.state.next(self.buf.as_bytes())?;
@@ -555,7 +555,7 @@ impl<'a, T: Kept> Iterator for ByteAttributes<'a, T> {
 
     /// # Panics
     ///
-    /// Where the library is none for [this crate](crate#panics).
+    /// Where the static library is not one for [this crate](crate#panics).
     #[inline]
     fn next(&mut self) -> Option<Self::Item> {
         let answer = self.state.next(self.buf)?;

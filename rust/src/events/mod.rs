@@ -115,7 +115,8 @@ impl<'i> BytesStart<'i> {
         &self.buf[self.name_len..]
     }
 
-    /// The first attribute of this name, or the refusal that comes before it. A key that comes twice is none.
+    /// The first attribute of this name, or the refusal that comes before it. Keys are not checked: one that comes
+    /// twice is no refusal.
     ///
     /// # Panics
     ///

@@ -115,7 +115,7 @@ impl<'m> NamespaceResolver<Lent<'m>> {
     ///
     /// # Panics
     ///
-    /// Where the library is none for [this crate](crate#panics).
+    /// Where the static library is not one for [this crate](crate#panics).
     pub fn new_in(memory: impl Into<Lent<'m>>) -> Self {
         let mut memory = memory.into();
         memory.fresh();
@@ -142,7 +142,7 @@ impl<'m> NamespaceResolver<Lent<'m>> {
     ///
     /// # Panics
     ///
-    /// Where the library is none for [this crate](crate#panics).
+    /// Where the static library is not one for [this crate](crate#panics).
     pub fn resume_in(memory: impl Into<Lent<'m>>) -> Result<Self, LentError> {
         let memory = memory.into();
         let held = memory.view();
@@ -479,7 +479,7 @@ impl Default for NamespaceResolver {
     ///
     /// # Panics
     ///
-    /// Where the library is none for [this crate](crate#panics).
+    /// Where the static library is not one for [this crate](crate#panics).
     fn default() -> Self {
         let mut memory = Owned::new();
         memory.lend().fresh();
