@@ -6,6 +6,7 @@
 //
 // At most 65,536 bytes are read; all of them are the tag, a line end too. The count comes first, so the tag is read twice,
 // 256 answers at a time: once to count them, once to show them.
+use lines::Mode;
 use tag_batch::Batch;
 use tag_keys::CAPACITY;
 use tag_step::Place;
@@ -100,8 +101,10 @@ fn show_on<'a>(
             tag,
             starts,
             ends,
-            false,
-            true,
+            Mode {
+                html: false,
+                checks: true,
+            },
             recorded,
             place,
             numbers,

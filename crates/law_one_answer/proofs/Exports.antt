@@ -85,7 +85,7 @@ module _ {M : Type 1} (𝓤 : URA M) (H : Heap 𝓤) (A : Atoms 𝓤) (mem : Mem
   lines-answers κs a g y z = alone 𝓤 _ y z refl
 
   pub lines-page : Settled 𝓤 lines·page.ended (lines·page.clauses 𝓤 H A mem run)
-  lines-page κs a g y z = read-off 𝓤 (λ (x : PageLeft). (paged x, (tt, (x .batch .starts, (x .batch .ends, (tt, (tt, (tt, (tt, (x .batch .out, (x .text, tt)))))))))))
+  lines-page κs a g y z = read-off 𝓤 (λ (x : PageLeft). (paged x, (tt, (x .batch .starts, (x .batch .ends, (tt, (tt, (tt, (x .batch .out, (x .text, tt))))))))))
 
   pub export-tags-mz-split : Settled 𝓤 export-tags·mz-split.ended (export-tags·mz-split.clauses 𝓤 H A mem run)
   export-tags-mz-split κs a g y z = alone 𝓤 _ y z refl

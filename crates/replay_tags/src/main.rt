@@ -6,6 +6,7 @@
 //
 // An answer's five numbers are those of `tag_batch::numbers`. Each record is read twice, in batches of 512 answers and of one:
 // the run is the same however it is cut. What is counted is `replayOf`, specs/Replay.antt.
+use lines::Mode;
 use replay::End;
 use replay::Replayed;
 use replay::Step;
@@ -27,8 +28,7 @@ fn wide(b: u8) -> usize
 // Whether the recorded answers are those of a fresh iterator on lent tables, read in batches of as many as `out` holds.
 fn agrees_on<'a>(
     tag: &[u8],
-    html: bool,
-    checks: bool,
+    mode: Mode,
     opening: usize,
     answers: usize,
     recorded: &[u8],
@@ -37,8 +37,10 @@ fn agrees_on<'a>(
     out: &mut [usize],
 ) -> bool
     requires { ⌜ Lent (now starts) (now ends) (now out) answers (now recorded) ⌝ }
-    ensures { λ r. ⌜ r ≡ agreesWith (now (tag .entry)) (openedOn opening html checks (now (starts .entry)) (now (ends .entry))) answers (now (recorded .entry)) ⌝ }
+    ensures { λ r. ⌜ r ≡ agreesWith (now (tag .entry)) (openedOn opening (mode .html) (mode .checks) (now (starts .entry)) (now (ends .entry))) answers (now (recorded .entry)) ⌝ }
 {
+    let html = mode.html;
+    let checks = mode.checks;
     let mut place = Place::Next(opening);
     let mut keys = 0;
     let mut total = 0;
@@ -66,22 +68,20 @@ fn agrees_on<'a>(
 
 fn agrees(
     tag: &[u8],
-    html: bool,
-    checks: bool,
+    mode: Mode,
     opening: usize,
     answers: usize,
     recorded: &[u8],
     out: &mut [usize],
 ) -> bool
     requires { ⌜ (5 ≤ length (now out)) × (10 * answers ≤ length (now recorded)) ⌝ }
-    ensures { λ r. ⌜ r ≡ agreesWith (now (tag .entry)) (opened opening html checks) answers (now (recorded .entry)) ⌝ }
+    ensures { λ r. ⌜ r ≡ agreesWith (now (tag .entry)) (opened opening (mode .html) (mode .checks)) answers (now (recorded .entry)) ⌝ }
 {
     let mut starts = [0usize; CAPACITY];
     let mut ends = [0usize; CAPACITY];
     agrees_on(
         tag,
-        html,
-        checks,
+        mode,
         opening,
         answers,
         recorded,
@@ -108,12 +108,13 @@ fn record_of(rest: &[u8], out: &mut [usize]) -> Step
     if (tail.len() - 6) / 10 < answers {
         return Step::Cut;
     }
-    let html = wide(tail[0]) == 1;
-    let checks = wide(tail[1]) == 1;
+    let mode = Mode {
+        html: wide(tail[0]) == 1,
+        checks: wide(tail[1]) == 1,
+    };
     if agrees(
         &rest[2..to],
-        html,
-        checks,
+        mode,
         replay::number_at(tail, 2),
         answers,
         &tail[6..],

@@ -76,14 +76,14 @@ part-agrees-end-2 c = search needs
 agrees-requires : tie.Need-agrees-requires
 agrees-requires c κs = search needs
 
-add-t27 : tie.Need-add-t27
-add-t27 c = search needs
+add-t28 : tie.Need-add-t28
+add-t28 c = search needs
 
-mul-t28 : tie.Need-mul-t28
-mul-t28 c = search needs
+mul-t29 : tie.Need-mul-t29
+mul-t29 c = search needs
 
-add-t29 : tie.Need-add-t29
-add-t29 c = search needs
+add-t30 : tie.Need-add-t30
+add-t30 c = search needs
 
 same-length : tie.Need-same-length
 same-length c = search needs
@@ -124,9 +124,9 @@ record-of-spec =
     part-agrees-start-2
     part-agrees-end-2
     agrees-requires
-    add-t27
-    mul-t28
-    add-t29
+    add-t28
+    mul-t29
+    add-t30
     same-length
     returns-4
     same-length-2
