@@ -6,8 +6,8 @@
 //
 // The calls are those of `Call`, in its order, and each acts on what the calls before it have left. `code` and five
 // values are the answer; then how many bytes of text and how many records are in use, and at which level. The resolver
-// goes from call to call by value, so that each contract is one equation on all of it. What is counted is `replayOf`,
-// specs/Replay.antt.
+// goes from call to call by value, so that each contract is one equation on all of it. The calls are made twice: each by
+// value, and each on a resolver in a local that is lent to it. What is counted is `replayOf`, specs/Replay.antt.
 use name::Declares;
 use replay::End;
 use replay::Replayed;
@@ -242,6 +242,51 @@ fn make<'a>(
     }
 }
 
+// The same calls in the other form: those that change a resolver on one that is lent to them, and names by the call that is
+// told whether a default is wanted.
+fn make_own<'a>(
+    r: NamespaceResolver,
+    call: Call,
+    a: u16,
+    b: u16,
+    first: &'a [u8],
+    second: &'a [u8],
+) -> Made
+    ensures { λ m. ⌜ m ≡ madeOf r call a b (now (first .entry)) (now (second .entry)) ⌝ }
+{
+    match call {
+        Call::Fresh => reset_to(NamespaceResolver::fresh()),
+        Call::AddDefault => changed_by(replay_forms::add(r, Declares::Default, first, second)),
+        Call::AddNamed => changed_by(replay_forms::add(r, Declares::Named, first, second)),
+        Call::Push => changed_by(replay_forms::push(r, first, replay::wide(a))),
+        Call::Pop => changed_by(replay_forms::pop(r)),
+        Call::SetLevel => changed_by(replay_forms::set_level(r, a)),
+        Call::SetLimit => reset_to(replay_forms::set_max_namespace_bindings(r, replay::wide(a))),
+        Call::ResolveAttribute => looked_up(r, scope_lookup::resolve(r, first, false)),
+        Call::ResolveElement => looked_up(r, scope_lookup::resolve(r, first, true)),
+        Call::Bindings => listed_as(r, scope_listing::bindings(r, replay::wide(a))),
+        Call::BindingsOf => listed_as(r, scope_listing::bindings_of(r, b, replay::wide(a))),
+    }
+}
+
+// In the one form or the other.
+fn make_by<'a>(
+    own: bool,
+    r: NamespaceResolver,
+    call: Call,
+    a: u16,
+    b: u16,
+    first: &'a [u8],
+    second: &'a [u8],
+) -> Made
+    ensures { λ m. ⌜ m ≡ madeOf r call a b (now (first .entry)) (now (second .entry)) ⌝ }
+{
+    if own {
+        return make_own(r, call, a, b, first, second);
+    }
+    make(r, call, a, b, first, second)
+}
+
 // Whether an answer is the one that is recorded at the front of some bytes.
 fn same_said(answer: Said, recorded: &[u8]) -> bool
     requires { ⌜ 18 ≤ length (now recorded) ⌝ }
@@ -326,14 +371,15 @@ fn lengths_of(rest: &[u8]) -> Lengths
 }
 
 // The call of a whole record, whose texts have n and m bytes.
-fn turn_of(r: NamespaceResolver, rest: &[u8], n: usize, m: usize) -> Turn
+fn turn_of(own: bool, r: NamespaceResolver, rest: &[u8], n: usize, m: usize) -> Turn
     requires { ⌜ 27 + n + m ≤ length (now rest) ⌝ }
     ensures { λ t. ⌜ t ≡ turnOf r (now (rest .entry)) n m ⌝ }
 {
     let to = 7 + n;
     let from = 9 + n;
     let end = from + m;
-    let made = make(
+    let made = make_by(
+        own,
         r,
         call_of(rest[0]),
         replay::two_at(rest, 1),
@@ -344,12 +390,12 @@ fn turn_of(r: NamespaceResolver, rest: &[u8], n: usize, m: usize) -> Turn
     held_to(made, 18 + end, &rest[end..])
 }
 
-fn record_of(r: NamespaceResolver, rest: &[u8]) -> Turn
+fn record_of(own: bool, r: NamespaceResolver, rest: &[u8]) -> Turn
     ensures { λ t. ⌜ t ≡ recordOf r (now (rest .entry)) ⌝ }
 {
     let lengths = lengths_of(rest);
     match lengths {
-        Lengths::Whole(n, m) => turn_of(r, rest, n, m),
+        Lengths::Whole(n, m) => turn_of(own, r, rest, n, m),
         Lengths::Cut => Turn {
             step: Step::Cut,
             resolver: r,
@@ -358,14 +404,14 @@ fn record_of(r: NamespaceResolver, rest: &[u8]) -> Turn
 }
 
 // How many records agree before the first that does not, and where that one is. A fresh resolver is there from the start.
-fn replay(records: &[u8]) -> Replayed
+fn replay(records: &[u8], own: bool) -> Replayed
     ensures { λ r. ⌜ r ≡ replayOf (now (records .entry)) ⌝ }
 {
     let mut resolver = NamespaceResolver::fresh();
     let mut run = replay::begun();
     while run.at < records.len() {
         let at = run.at;
-        let turn = record_of(resolver, &records[at..]);
+        let turn = record_of(own, resolver, &records[at..]);
         let left = turn.resolver;
         let step = turn.step;
         resolver = left;
@@ -430,5 +476,6 @@ fn main() {
     if too_long() {
         return;
     }
-    show(replay(&buffer[..n]));
+    show(replay(&buffer[..n], false));
+    show(replay(&buffer[..n], true));
 }

@@ -12,10 +12,10 @@ use Rattle.replay_scopes.proofs.replay.Statement.{statement}
 use Rattle.replay_scopes.proofs.replay.Tie as tie
 
 abbrev Inv-loop : tie.InvT-loop
-Inv-loop records resolver₀ run₀ resolver run = Stands (λ x rest. recordOf x rest .step) (λ x rest. recordOf x rest .resolver) records freshOf resolver run
+Inv-loop records own resolver₀ run₀ resolver run = Stands (λ x rest. recordOf x rest .step) (λ x rest. recordOf x rest .resolver) records freshOf resolver run
 
 abbrev μ-loop : tie.MeasureT-loop
-μ-loop records resolver₀ run₀ resolver run = length records - run .at
+μ-loop records own resolver₀ run₀ resolver run = length records - run .at
 
 fresh-requires : tie.Need-fresh-requires Inv-loop μ-loop
 fresh-requires c κs = search needs
