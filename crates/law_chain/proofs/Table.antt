@@ -21,13 +21,13 @@ use Rattle.scope_change.specs.Change.{boundOf}
 use Rattle.scope_declare.specs.Declare.{limitedOf}
 use Rattle.scope_push.specs.Push.{raisedOf}
 use Rattle.scope_table.specs.Lists.{lastBelow}
+use Rattle.scope_table.proofs.Good.{Shaped, form-of}
 use Rattle.scope_lookup.specs.Lookup.{hasPrefix, isDefault, valueOr, uriPart}
 use Rattle.scope_lookup.specs.declared.Resolved.{Resolved}
 use Rattle.scope_lookup.specs.declared.Resolved.the-variants.{Bound}
 use Rattle.law_scopes.specs.Scopes.{Made, made}
 use Rattle.law_scopes.specs.Made.{madeOf, madeAt}
 use Rattle.law_scopes.specs.Promises.{Proper, BuiltInsStand}
-use Rattle.law_scopes.proofs.Form.{Shaped, form-of}
 use Rattle.law_scopes.proofs.Bound.{Takes}
 use Rattle.law_scopes.proofs.Valid.{bound-proper, raised-proper, limited-proper, fresh-proper}
 use Rattle.law_scopes.proofs.Made.{record-ends, bound-old, bound-new, prefix-length, value-length}

@@ -7,14 +7,16 @@ use native.Mathlib.Omega.{arith}
 use lib.Dec.{leb}
 use lib.ListN.{length}
 use borrow.Author.Tests.{leb-true, leb-false, le-leb}
+use Rattle.scan.specs.Lists.{padTo}
+use Rattle.scan.proofs.Lists.{pad-length}
 use Rattle.scope_table.specs.Records.{rowAt}
 use Rattle.scope_table.specs.Table.{TEXT, NUMBERS, validOf}
-use Rattle.scope_table.specs.Lent.{padTo, standsFor, holdsOf, fitsOf, lentOf, formOf}
+use Rattle.scope_table.specs.Lent.{standsFor, holdsOf, fitsOf, lentOf, formOf}
 use Rattle.scope_table.specs.declared.Head.{Head}
 use Rattle.scope_table.specs.declared.NamespaceResolver.{NamespaceResolver}
 use Rattle.scope_table.specs.declared.Form.the-variants as Is
 use Rattle.scope_table.proofs.Lists.{and-left, and-right, and-take}
-use Rattle.scope_table.proofs.Pad.{pad-length, holds-beyond, holds-within, holds-is}
+use Rattle.scope_table.proofs.Pad.{holds-beyond, holds-within, holds-is}
 use Rattle.scope_table.proofs.Good.{valid-lent, form-good, ready}
 use Rattle.scope_table.proofs.Calls.{asks}
 use Rattle.scope_table.proofs.Full.{lent-again}

@@ -7,9 +7,10 @@ use mathlib.Core.List.{List, [], _∷_}
 use native.Mathlib.Omega.{arith}
 use lib.ListN.{length, replicate, length-replicate}
 use Rattle.scan.specs.Bytes.{bytes, bytesFrom}
+use Rattle.scan.specs.Lists.{padTo}
 use Rattle.scope_table.specs.Table.{TEXT, NUMBERS, LIMIT, headOf, freshOf}
 use Rattle.scope_table.specs.Answer.{changed}
-use Rattle.scope_table.specs.Lent.{padTo, standsFor, holdsOf, fitsOf, Given, given, heldOf, lentOf, freshIn}
+use Rattle.scope_table.specs.Lent.{standsFor, holdsOf, fitsOf, Given, given, heldOf, lentOf, freshIn}
 use Rattle.scope_table.specs.declared.NamespaceResolver.{NamespaceResolver}
 use Rattle.scope_table.specs.declared.Changed.{Changed}
 use Rattle.scope_table.specs.declared.NamespaceResult.{NamespaceResult}

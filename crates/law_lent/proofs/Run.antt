@@ -8,6 +8,7 @@ use mathlib.Core.Logic.{⊎-elim}
 use native.Mathlib.Omega.{arith}
 use lib.ListN.{length, take}
 use Rattle.scan.specs.First.{pick}
+use Rattle.scan.proofs.Lists.{pad-take}
 use lib.Dec.{leb}
 use Rattle.scope_table.specs.Table.{TEXT, NUMBERS, freshOf}
 use Rattle.scope_table.specs.Answer.{changed}
@@ -17,7 +18,6 @@ use Rattle.scope_table.specs.declared.NamespaceResolver.{NamespaceResolver}
 use Rattle.scope_table.specs.declared.Changed.{Changed}
 use Rattle.scope_table.specs.declared.NamespaceResult.the-variants.{Done, LendMore, WrongLength}
 use Rattle.scope_table.specs.declared.Form.the-variants as Is
-use Rattle.scope_table.proofs.Pad.{pad-take}
 use Rattle.scope_table.proofs.Good.{ready}
 use Rattle.scope_table.proofs.Calls.{changes}
 use Rattle.scope_declare.specs.Declare.{popOf, limitedOf}

@@ -6,9 +6,10 @@ use mathlib.Core.Bool.{true, false}
 use mathlib.Core.List.{List}
 use mathlib.Core.Logic.{_⊎_}
 use lib.ListN.{length}
+use Rattle.scan.specs.Lists.{padTo}
 use Rattle.scope_table.specs.Table.{TEXT, NUMBERS, DEEPEST, headOf, resolverOf, freshOf}
 use Rattle.scope_table.specs.Answer.{changed}
-use Rattle.scope_table.specs.Lent.{padTo, standsFor, fitsOf, lent, Given, given, lentOf, freshIn, formOf}
+use Rattle.scope_table.specs.Lent.{standsFor, fitsOf, lent, Given, given, lentOf, freshIn, formOf}
 use Rattle.scope_table.specs.declared.Head.{Head}
 use Rattle.scope_table.specs.declared.NamespaceResolver.{NamespaceResolver}
 use Rattle.scope_table.specs.declared.Changed.{Changed}

@@ -15,12 +15,12 @@ use Rattle.scope_table.specs.Answer.{changeNumbers}
 use Rattle.scope_table.specs.declared.NamespaceResolver.{NamespaceResolver}
 use Rattle.scope_table.specs.declared.NamespaceResult.{NamespaceResult}
 use Rattle.scope_table.specs.declared.NamespaceResult.the-variants.{Done, TooManyBindings, BindingTableFull, TextFull}
+use Rattle.scope_table.proofs.Good.{form-of}
 use Rattle.scope_change.specs.Change.{whole, refusalOf, appended, appendOf}
 use Rattle.scope_declare.specs.Declare.{wholly, judgeOf, settleOf, declareOf, addOf}
 use Rattle.scope_declare.specs.declared.Judged.the-variants.{Bind}
 use Rattle.name.specs.declared.Declares.{Declares}
 use Rattle.law_scopes.specs.Promises.{SixteenExactly, EighteenExactly, NineteenExactly}
-use Rattle.law_scopes.proofs.Form.{form-of}
 
 module _ (limit : ℕ) (x : NamespaceResolver) (p v : List ℕ) where
   -- what the three tests give

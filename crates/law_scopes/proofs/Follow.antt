@@ -14,6 +14,7 @@ use Rattle.scope_table.specs.Answer.{isDone}
 use Rattle.scope_table.specs.declared.NamespaceResolver.{NamespaceResolver}
 use Rattle.scope_table.specs.declared.NamespaceResult.the-variants.{Done, TooManyBindings, BindingTableFull, TextFull}
 use Rattle.scope_table.specs.declared.Changed.{Changed}
+use Rattle.scope_table.proofs.Good.{Shaped, form-of}
 use Rattle.scope_change.specs.Change.{whole, boundOf, refusalOf, appendOf, keptOf, droppedOf, levelOf}
 use Rattle.scope_declare.specs.declared.Judged.{Judged}
 use Rattle.scope_declare.specs.declared.Judged.the-variants.{Keep, Bind}
@@ -23,7 +24,6 @@ use Rattle.law_scopes.specs.Calls.{add, push, pop, setLevel, setLimit, c
 use Rattle.law_scopes.specs.Scopes.{Told, told, sizeOf, roomFor, bindIn, settleIn, declareIn, declareAllIn, levelIn, callIn}
 use Rattle.law_scopes.specs.Made.{madeOf, madeAt, madeIn, scopesOf, seen}
 use Rattle.law_scopes.specs.Promises.{Proper, ScopesFollow}
-use Rattle.law_scopes.proofs.Form.{Shaped, form-of}
 use Rattle.law_scopes.proofs.Bound.{Takes}
 use Rattle.law_scopes.proofs.Declared.{refusal, room-of, declare-keeps}
 use Rattle.law_scopes.proofs.Valid.{bound-proper, raised-proper}

@@ -13,6 +13,7 @@ use Rattle.scope_table.specs.declared.NamespaceResolver.{NamespaceResolver}
 use Rattle.scope_table.specs.declared.Changed.{Changed}
 use Rattle.scope_table.specs.declared.NamespaceResult.{NamespaceResult}
 use Rattle.scope_table.specs.declared.NamespaceResult.the-variants.{Done}
+use Rattle.scope_table.proofs.Good.{form-of}
 use Rattle.scope_declare.specs.declared.Judged.{Judged}
 use Rattle.scope_declare.specs.declared.Judged.the-variants.{Keep, Bind}
 use Rattle.scope_declare.specs.Declare.{judgeOf, popOf}
@@ -21,7 +22,6 @@ use Rattle.law_scopes.specs.Calls.{push, pop, callOf}
 use Rattle.law_scopes.specs.Scopes.{Made, made, Scopes, scopes, Told, told, roomFor, bindIn, settleIn, declareIn, declareAllIn, upTo, levelIn, callIn}
 use Rattle.law_scopes.specs.Made.{madeOf, madeAt, madeIn, scopesOf, seen}
 use Rattle.law_scopes.specs.Promises.{Proper, ValidStays, ScopesFollow, ScopesDetermine, PushPopReturns}
-use Rattle.law_scopes.proofs.Form.{form-of}
 use Rattle.law_scopes.proofs.Listed.{not-kept, up-append, up-list}
 use Rattle.law_scopes.proofs.Valid.{valid-stays}
 use Rattle.law_scopes.proofs.Follow.{scopes-follow}

@@ -3,14 +3,15 @@ use Prim.Native.Nat.{_+_}
 use mathlib.Core.Path.{_≡_, refl, ap, _∙_}
 use mathlib.Core.List.{List, [], _∷_}
 use lib.ListN.{length}
+use Rattle.scan.specs.Lists.{listTo}
 use Rattle.scope_table.specs.Table.{freshOf}
 use Rattle.scope_table.specs.declared.NamespaceResolver.{NamespaceResolver}
 use Rattle.scope_table.specs.declared.NamespaceResult.{NamespaceResult}
+use Rattle.scope_table.proofs.Good.{form-of}
 use Rattle.law_scopes.specs.Calls.{Call, callOf, leftBy, answersBy}
 use Rattle.law_scopes.specs.Scopes.{Made, Scopes, Told, none, sizeOf, standing, answersIn}
-use Rattle.law_scopes.specs.Made.{listTo, madeIn, scopesOf, seen}
+use Rattle.law_scopes.specs.Made.{madeIn, scopesOf, seen}
 use Rattle.law_scopes.specs.Promises.{Proper, ValidStays, ReachedValid, ScopesFollow, Sums, ScopeSums, AnswersFollow}
-use Rattle.law_scopes.proofs.Form.{form-of}
 use Rattle.law_scopes.proofs.Valid.{fresh-proper, valid-stays, reached-valid}
 use Rattle.law_scopes.proofs.Made.{used-sum, count-sum}
 use Rattle.law_scopes.proofs.Follow.{scopes-follow}

@@ -9,7 +9,7 @@ use lib.Dec.{leb, ltb}
 use lib.ListN.{length, take, getD}
 use lib.Seq.{take-all}
 use Rattle.scan.specs.First.{pick}
-use Rattle.scan.specs.Bytes.{part}
+use Rattle.scan.specs.Bytes.{part, Marks}
 use Rattle.name.specs.Bind.{reservedBind, namedNumbers, numberOf, refusedText}
 use Rattle.name.specs.declared.Declares.{Declares}
 use Rattle.name.specs.declared.Declares.the-variants.{Nothing, Default, Named}
@@ -23,7 +23,7 @@ use Rattle.scope_table.specs.declared.NamespaceResult.the-variants.{Done, TooMa
 use Rattle.scope_change.specs.Change.{whole, refusalOf, appendOf}
 use Rattle.scope_change.specs.declared.Room.{Room}
 use Rattle.scope_declare.specs.Declare.{wholly, namedOf, judgeOf, settleOf, declareOf, addOf}
-use Rattle.scope_declare.specs.Texts.{Marks, HoldsText}
+use Rattle.scope_declare.specs.Texts.{HoldsText}
 use Rattle.scope_declare.specs.declared.Places.{Places}
 
 -- 16, 18, 19 hold none

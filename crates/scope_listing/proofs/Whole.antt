@@ -18,7 +18,7 @@ use Rattle.scan.proofs.Bytes.{both, same-refl}
 use Rattle.scan.proofs.Lists.{part-length}
 use Rattle.scope_table.specs.Records.{recordAt, valueStart, valueEnd, prefixIn}
 use Rattle.scope_table.specs.Table.{validOf}
-use Rattle.scope_table.proofs.Good.{Formed, formed-valid, lies}
+use Rattle.scope_table.proofs.Good.{form-of, lies}
 use Rattle.scope_table.specs.declared.NamespaceBinding.{NamespaceBinding}
 use Rattle.scope_table.specs.declared.NamespaceResolver.{NamespaceResolver}
 use Rattle.scope_table.specs.Lists.{lastBelow}
@@ -184,7 +184,7 @@ module _ (x : NamespaceResolver) (v : validOf x ≡ true) (w : x .head .used ≤
   some-length : (row i .«prefix_len» ≡ 0 → ⊥) → length (prefixIn (x .text) (row i)) ≡ 0 → ⊥
   unfolding prefixIn row
   some-length n z =
-      let l = lies (x .text) (x .records) (x .head) (formed-valid x v) i h in
+      let l = lies (x .text) (x .records) (x .head) (form-of x v) i h in
       n (omega (arith, part-length (x .text) (row i .start) (valueStart (row i)) (omega arith) (omega arith)))
 
   default-later : row i .«prefix_len» ≡ 0 → (k : ℕ) → i < k → k < x .head .count → isDefault (row k) ≡ false

@@ -10,7 +10,7 @@ use lib.ListN.{length, take, drop, getD, length-drop}
 use lib.Seq.{drop-drop}
 use borrow.Author.Tests.{leb-true, leb-false}
 use Rattle.scan.specs.First.{firstFrom}
-use Rattle.scan.specs.Bytes.{part, isByte, notSpace}
+use Rattle.scan.specs.Bytes.{part, isByte, notSpace, Marks}
 use Rattle.scan.proofs.Laws.{first, picks}
 use Rattle.scan.proofs.Lists.{part-is, part-length}
 use Rattle.name.specs.Bind.{reservedBind, refusedText}
@@ -42,7 +42,7 @@ use Rattle.scope_table.specs.declared.Changed.{Changed}
 use Rattle.scope_change.specs.Change.{whole}
 use Rattle.scope_change.specs.declared.Room.{Room}
 use Rattle.scope_declare.specs.Declare.{namedOf, judgeOf, settleOf, declareOf}
-use Rattle.scope_declare.specs.Texts.{Marks, HoldsText}
+use Rattle.scope_declare.specs.Texts.{HoldsText}
 use Rattle.scope_declare.specs.declared.Places.{Places}
 use Rattle.scope_declare.proofs.Texts.{append-none, declare-holds}
 use Rattle.scope_push.specs.Push.{Declaration, declarationOf, declarationThen, declarationsOf, tagAnswers, tagDeclarations, declareOne, thenOf, declareAll, raisedOf, pushOf}
