@@ -12,8 +12,8 @@ use Rattle.scan.specs.Bytes.{part, sameBytes, bytesFrom, bytes}
 use Rattle.tag_keys.specs.declared.Earlier.the-variants.{At, Nothing}
 use Rattle.tag_keys.specs.declared.Checked.the-variants.{Fresh, Same}
 use Rattle.tag_keys.specs.Keys.{capacity, nameAt, sameKey, oldestOf, earlierOf, checkedBy, checkedOf, writtenBy, countBy}
-use Rattle.law_hashes.specs.Hash.{unset, held, Key, hashedEarlierOf, Covers, crateEarlierOf, crateChecksOf, checksOf}
-use Rattle.law_hashes.proofs.Hash.{any-hash-agrees, crate-way-agrees, crate-run-agrees}
+use Rattle.law_hashes.specs.Hash.{unset, held, insert, Key, asked, hashedEarlierOf, Covers, crateEarlierOf, hashesAfter, crateChecksOf, checksOf}
+use Rattle.law_hashes.proofs.Hash.{any-hash-agrees, crate-way-agrees, crate-way-keeps, crate-run-agrees}
 
 abbrev hash : List ℕ → ℕ
 hash name = length name
@@ -60,6 +60,11 @@ crate-way-example = (
   crate-way-agrees hash 2 unset tag starts ends 2 6 7 tt,
   crate-way-agrees hash 2 (held ones) tag starts ends 2 4 5 (omega arith, ones-cover),
 )
+
+-- c is recorded third, and the set after that holds the hash of all three
+pub crate-keeps-example : (k : ℕ) → k < 3 → insert ones (hash (bytes "c")) (hash (nameAt tag (0 ∷ 2 ∷ 4 ∷ replicate 253 0) (1 ∷ 3 ∷ 5 ∷ replicate 253 0) k)) ≡ true
+unfolding stopOr firstOf firstTo part sameBytes bytesFrom bytes nameAt sameKey oldestOf earlierOf checkedBy checkedOf writtenBy countBy asked hashesAfter
+crate-keeps-example = crate-way-keeps hash 2 (held ones) tag starts ends 2 4 5 (omega arith, ones-cover) (record { room = λ _. (omega arith, omega arith) }) .1 .has
 
 abbrev key : ℕ → ℕ → Key
 key from to = record { from = from; to = to }

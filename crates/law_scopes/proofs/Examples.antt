@@ -21,14 +21,14 @@ use Rattle.name.specs.declared.Declares.the-variants.{Default, Named}
 use Rattle.scope_table.specs.Table.{TEXT, RECORDS, LIMIT, headOf, resolverOf, isWithin, opensBuiltIn, isTable, validOf, freshOf}
 use Rattle.scope_table.specs.Answer.{changed}
 use Rattle.scope_table.specs.declared.NamespaceResolver.{NamespaceResolver}
-use Rattle.scope_table.specs.declared.NamespaceResult.the-variants.{Done, InvalidXmlnsPrefixBind, BindingTableFull, TextFull, BadResolver, LendMore, WrongLength}
+use Rattle.scope_table.specs.declared.NamespaceResult.the-variants.{Done, InvalidXmlnsPrefixBind, TooManyBindings, BindingTableFull, TextFull, BadResolver, LendMore, WrongLength}
 use Rattle.scope_declare.specs.declared.Judged.the-variants.{Bind}
 use Rattle.scope_declare.specs.Declare.{wholly, namedOf, judgeOf, addOf, popOf}
 use Rattle.scope_push.specs.Push.{declarationOf, declarationThen, declarationsOf, tagAnswers, pushOf}
 use Rattle.law_scopes.specs.Calls.{Call, add, push, pop, setLimit, callOf, testsForm, leftBy, answersBy}
 use Rattle.law_scopes.specs.Scopes.{Made, made, Scopes, scopes, Told, told, none, sizeOf, roomFor, bindIn, settleIn, declareIn, declareAllIn, keeps, upTo, levelIn, callIn, standing, answersIn}
 use Rattle.law_scopes.specs.Made.{madeAt, seen}
-use Rattle.law_scopes.specs.Promises.{PushPopReturns, ValidStays, ReachedValid, BadStays, BadOnly, SizedStays, NeverLends, EighteenExactly, NineteenExactly, ScopesFollow, BuiltInsStand, ScopesDetermine, ScopeSums, AnswersFollow}
+use Rattle.law_scopes.specs.Promises.{PushPopReturns, ValidStays, ReachedValid, BadStays, BadOnly, SizedStays, NeverLends, SixteenExactly, EighteenExactly, NineteenExactly, ScopesFollow, BuiltInsStand, ScopesDetermine, ScopeSums, AnswersFollow}
 use Rattle.law_scopes.proofs.Valid.{fresh-proper, valid-stays, reached-valid}
 use Rattle.law_scopes.proofs.Twenty.{bad-stays, bad-only, sized-stays, never-lends}
 use Rattle.law_scopes.proofs.BuiltIn.{built-ins-stand}
@@ -36,7 +36,7 @@ use Rattle.law_scopes.proofs.Determine.{scopes-determine}
 use Rattle.law_scopes.proofs.Follow.{scopes-follow}
 use Rattle.law_scopes.proofs.Returns.{push-pop-returns}
 use Rattle.law_scopes.proofs.Sums.{fresh-none, left-standing, scope-sums, answers-follow}
-use Rattle.law_scopes.proofs.Exactly.{eighteen-exactly, nineteen-exactly}
+use Rattle.law_scopes.proofs.Exactly.{sixteen-exactly, eighteen-exactly, nineteen-exactly}
 
 -- a tag, a tag in it that is refused half way, a declaration added there, and what comes then
 abbrev outerTag : List ℕ
@@ -134,6 +134,18 @@ bad-stays-instance = bad-stays empty refl (push outerTag 0) refl
 p-binds : judgeOf Named (bytes "p") (bytes "v") (wholly (bytes "p") (bytes "v")) ≡ Bind 1
 unfolding judgeOf namedOf reservedBind isXml isXmlns isXmlUri isXmlnsUri xmlPrefix xmlnsPrefix xmlUri xmlnsUri sameBytes bytes bytesFrom
 p-binds = refl
+
+-- 16: with a limit of 0 there is room for none.
+
+abbrev closed : List Call
+closed = setLimit 0 ∷ []
+
+pub sixteen-instance : addOf Named (bytes "p") (bytes "v") (leftBy closed freshOf) .answer ≡ TooManyBindings 0
+unfolding SixteenExactly ScopeSums ReachedValid standing callIn none
+sixteen-instance =
+    let x = leftBy closed freshOf in
+    let limit : x .head .limit ≡ 0 = scope-sums closed .limit in
+    sixteen-exactly x (reached-valid closed .valid) Named (bytes "p") (bytes "v") 1 p-binds .1 (omega arith) ∙ ap TooManyBindings limit
 
 -- 18: with a limit of 2,000, 1,024 bindings of no bytes fill the records.
 

@@ -19,9 +19,12 @@ use Rattle.tag_step.specs.declared.Answer.{Answer}
 use Rattle.tag_step.specs.declared.Answer.the-variants.{End, DoubleQ, SingleQ, Unquoted, Empty, ExpectedEq, ExpectedValue, UnquotedValue, ExpectedQuote, Duplicated, KeyTableFull, BadState}
 use Rattle.tag_step.specs.declared.IterState.{IterState}
 use Rattle.tag_step.specs.declared.Step.{Step}
-use Rattle.tag_step.specs.Read.{span, isAt, isQuote, skipTo, skipOf, recoverOf, keyEq, keyTo, keyFrom, keyAt, quoted, closedOf, quotedTo, quotedOf, unquotedTo, otherOf, valueIn, valueFrom, valueAt}
+use Rattle.tag_step.specs.Read.{span, isAt, isQuote, skipTo, skipOf, skipEqValueOf, recoverOf, keyEq, keyTo, keyFrom, keyAt, quoted, closedOf, quotedTo, quotedOf, unquotedTo, otherOf, valueIn, valueFrom, valueAt}
 use Rattle.tag_step.specs.Next.{checkOf, keptBy, placeAt, bareBy, bareTo, bareOf, valuedBy, valuedTo, valuedOf, readKey, readAt, stepFrom, stepOf, placeGood, keysOf, stateGood, noKeys, badReading, leaves, nextOf, opened}
-use Rattle.tag_step.proofs.Good.{opened-good}
+use Rattle.tag_step.specs.Run.{runOf, answersOf}
+use Rattle.tag_step.proofs.Good.{Sized, opened-good, next-stays-good}
+use Rattle.tag_step.proofs.Paths.{skip-eq-plain}
+use Rattle.tag_step.proofs.Run.{run-whole}
 use Rattle.law_steps.specs.Steps.{FullTables, Broken, outsideKey, SevenExactly, valued, SixExactly, onlySpace, RecordsIts, Left, LeavesExact, EndExactly, EndStays, Forward, StepForward}
 use Rattle.law_steps.proofs.Leaves.{leaves-exact}
 use Rattle.law_steps.proofs.Refusals.{good-whole, six-exactly, seven-exactly}
@@ -208,3 +211,23 @@ forward-example =
     step-forward (tag "a b a =1") five
     (λ (e : Duplicated 4 0 ≡ End). let z : _≡_ {A = ℕ} 0 1 = cc in omega arith)
     (λ (e : Duplicated 4 0 ≡ BadState). let z : _≡_ {A = ℕ} 0 1 = cc in omega arith)
+
+-- Three laws of the iterator that these stand on.
+
+-- a longer run has no more answers
+opened-sized : Sized (opened 0 false true)
+unfolding opened noKeys
+opened-sized = record { starts = length-replicate {A = ℕ} capacity 0; ends = length-replicate {A = ℕ} capacity 0 }
+
+pub run-whole-example : runOf 13 three-tag (opened 0 false true) ≡ answersOf three-tag (opened 0 false true)
+unfolding bytesFrom bytes
+run-whole-example = run-whole 3 three-tag (opened 0 false true) opened-sized
+
+-- 7 leaves a state that 7 does not answer
+pub stays-good-example : stateGood (tag "a") (nextOf (tag "a") (at (SkipValue 1) true false 0 8 1 9 1) .state) ≡ true
+stays-good-example = next-stays-good (tag "a") (at (SkipValue 1) true false 0 8 1 9 1) (record { starts = refl; ends = refl })
+
+-- from the `=` on, the first whitespace, though it stands between quotes
+pub skip-eq-example : skipEqValueOf (tag "a=\"2 3\" b") 1 ≡ From 4
+unfolding stopOr firstOf firstTo firstFrom isSpace bytesFrom bytes isAt skipTo skipOf placeGood
+skip-eq-example = skip-eq-plain (tag "a=\"2 3\" b") 1 refl

@@ -84,7 +84,7 @@ returns-4 c =
 take-back-requires : tie.Need-take-back-requires
 take-back-requires c κs =
     let a = c .before .before .before .before .before .before .before .before .before .before .before .before .before .before .before .before .before .before .before .before .before .before .args in
-    ready (a .text .now) (a .records .now) (a .head) (sym (c .before .before .before .before .before .before .before .before .before .before .before .before .before .before .before .before .form-in .ensures) ∙ c .before .before .before .before .before .before .before .before .before .before .before .before .before .before .enum-told .given .1) .table .bounds .few-records
+    ready (a .text .now) (a .records .now) (a .head) (sym (c .before .before .before .before .before .before .before .before .before .before .before .before .before .before .before .before .form-in .ensures) ∙ c .before .before .before .before .before .before .before .before .before .before .before .before .before .before .enum-told .given .1) .table .few
 
 same-length-9 : tie.Need-same-length-9
 same-length-9 c = search needs
