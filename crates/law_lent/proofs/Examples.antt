@@ -179,7 +179,7 @@ pub asks-again-instance : lent 99 (λ x. x .head .level) (padTo 76 (memory 75 .t
 unfolding AsksAgain
 asks-again-instance =
     let g = memory 75 in
-    asks-again (g .text) (g .records) (g .head) (ready (g .text) (g .records) (g .head) (fresh-75 .kept .ready) .fit) 76 16 seventy-five .1 .1 ℕ 99 (λ x. x .head .level)
+    asks-again (g .text) (g .records) (g .head) (ready (g .text) (g .records) (g .head) (fresh-75 .kept .ready) .fit) 76 16 seventy-five .2 ℕ 99 (λ x. x .head .level)
 
 -- the limit, written into the head
 pub lent-limit-instance : lentOf (callOf (setLimit 500)) (memory 76 .text) (memory 76 .records) (memory 76 .head) .answer ≡ Done
