@@ -6,7 +6,7 @@ use native.Mathlib.Omega.{arith}
 use lib.ListN.{getD}
 use Rattle.scan.specs.Bytes.{Marks, sameBytes, bytesFrom, bytes}
 use Rattle.name.specs.Reserved.{xmlPrefix, xmlnsPrefix, xmlUri, xmlnsUri, isXml, isXmlns, isXmlUri, isXmlnsUri}
-use Rattle.name.specs.Bind.{reservedBind, numberOf, refusedText}
+use Rattle.name.specs.Bind.{reservedBind, namedNumbers, numberOf, refusedText}
 use Rattle.name.specs.declared.Declares.the-variants.{Named}
 use Rattle.scope_table.specs.Lists.{allBelow, allZero}
 use Rattle.scope_table.specs.Table.{LIMIT, builtIn, textOf, levelBefore, isRecord, opensBuiltIn, isChain, isRising, isWithin, isClear, isTable, validOf, headOf, resolverOf}
@@ -29,7 +29,7 @@ unfolding sameBytes bytesFrom bytes xmlPrefix xmlnsPrefix xmlUri xmlnsUri isXml 
 add-holds-instance = (add-holds Named xmlPrefix (bytes "http") bare, add-holds Named (bytes "pre") xmlnsUri bare)
 
 twelve : numberOf (reservedBind xmlPrefix (bytes "http")) ≡ 12
-unfolding sameBytes bytesFrom bytes xmlPrefix xmlnsPrefix xmlUri xmlnsUri isXml isXmlns isXmlUri isXmlnsUri reservedBind numberOf
+unfolding sameBytes bytesFrom bytes xmlPrefix xmlnsPrefix xmlUri xmlnsUri isXml isXmlns isXmlUri isXmlnsUri reservedBind namedNumbers
 twelve = refl
 
 pub add-refuses-instance : getD (changeNumbers (addOf Named xmlPrefix (bytes "http") bare .answer)) 0 0 ≡ 12
