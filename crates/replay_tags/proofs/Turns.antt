@@ -6,18 +6,19 @@ use mathlib.Core.List.{List, [], _∷_, _++_, append-nil}
 use native.Mathlib.Omega.{arith}
 use lib.ListN.{length, take, drop, getD, length-append, length-take, length-drop}
 use lib.Seq.{drop-drop, getD-drop, take-all, take-at}
-use lib.Dec.{eqb, leb}
-use borrow.Author.Tests.{eq-eqb, ne-eqb, eqb-true, eqb-false, leb-true, leb-false}
+use lib.Dec.{eqb, leb, ltb}
+use borrow.Author.Tests.{eq-eqb, ne-eqb, eqb-true, eqb-false, leb-true, leb-false, ltb-true, ltb-false}
 use Rattle.scan.specs.Bytes.{sameBytes}
 use Rattle.scan.proofs.Bytes.{same-length}
 use Rattle.tag_step.specs.declared.Answer.{Answer}
 use Rattle.tag_step.specs.declared.IterState.{IterState}
-use Rattle.tag_step.specs.Run.{runOf, answersOf}
+use Rattle.tag_step.specs.Next.{nextOf}
+use Rattle.tag_step.specs.Run.{isEnd, consUnless, runOf, answersOf}
 use Rattle.tag_step.proofs.Run.{run-whole}
 use Rattle.tag_step.proofs.Good.{Sized}
 use Rattle.scan.specs.Lists.{over}
-use Rattle.scan.proofs.Lists.{over-length}
-use Rattle.tag_batch.specs.Batch.{fivesOf, leftOf, roomOf}
+use Rattle.scan.proofs.Lists.{over-length, to-end}
+use Rattle.tag_batch.specs.Batch.{fiveOf, fivesOf, leftOf, roomOf}
 use Rattle.lines.proofs.Batches.{stand-first, stand-last, fives-length, fives-append, run-most, run-full}
 use Rattle.replay.specs.Numbers.{twosOf}
 use Rattle.replay.proofs.Twos.{twos-length, twos-add}
@@ -161,3 +162,70 @@ rest-on s st answers total n rec =
     let a : answers - total - n ≡ answers - (total + n) = omega arith in
     let b : 10 * total + 10 * n ≡ 10 * (total + n) = omega arith in
     rw (drop-drop (10 * n) (10 * total) rec, a, b)
+
+-- One answer after another: an answer that is not the end is a batch of one.
+module _ (s : List ℕ) (st : IterState) (z : Sized st) (k : ℕ) (rest : List ℕ) where
+  abbrev answer : Answer
+  answer = nextOf s st .answer
+
+  one : isEnd answer ≡ false → runOf 1 s st ≡ answer ∷ []
+  unfolding runOf consUnless
+  one e = rw e
+
+  none : isEnd answer ≡ true → runOf 1 s st ≡ []
+  unfolding runOf consUnless
+  none e = rw e
+
+  -- the end: how many are recorded decides
+  pub ends-at : isEnd answer ≡ true → eqb 0 k ≡ agreesWith s st k rest
+  unfolding fivesOf
+  ends-at e =
+      let l : length (runOf 1 s st) ≡ 0 = ap length (none e) in
+      let b : sameBytes (fivesOf (runOf 1 s st)) (twosOf (5 * length (runOf 1 s st)) rest) ≡ true = rw (none e) (same-none rest) in
+      rw (← l) (last-is s st z 1 k rest (omega arith) b (omega arith))
+
+  module _ (e : isEnd answer ≡ false) where
+    size-one : length (runOf 1 s st) ≡ 1
+    size-one = ap length (one e)
+
+    five-one : fivesOf (runOf 1 s st) ≡ fiveOf answer
+    unfolding fivesOf
+    five-one = rw (one e) (append-nil (fiveOf answer))
+
+    pub one-too-many : k ≡ 0 → false ≡ agreesWith s st k rest
+    one-too-many h = too-many s st z 1 k rest (omega (arith, size-one))
+
+    module _ (h : 0 < k) {b : Bool} (same : b ≡ sameBytes (fiveOf answer) (twosOf 5 rest)) where
+      same-one : sameBytes (fivesOf (runOf 1 s st)) (twosOf (5 * length (runOf 1 s st)) rest) ≡ b
+      same-one =
+          let f : 5 * length (runOf 1 s st) ≡ 5 = omega (arith, size-one) in
+          rw (f, five-one) (sym same)
+
+      pub one-differs : b ≡ false → false ≡ agreesWith s st k rest
+      one-differs q = differs s st z 1 k rest (omega (arith, size-one)) (same-one ∙ q)
+
+      pub one-on : b ≡ true → agreesWith s st k rest ≡ agreesWith s (nextOf s st .state) (k - 1) (drop 10 rest)
+      unfolding leftOf
+      one-on q =
+          let g = goes-on s st z 1 k rest (omega (arith, size-one)) (same-one ∙ q) size-one in
+          let t : 10 * length (runOf 1 s st) ≡ 10 = omega (arith, size-one) in
+          g ∙ rw (e, t, size-one)
+
+-- how many are left, as the code asks it
+pub count-none : (total answers : ℕ) → total ≤ answers → eqb total answers ≡ eqb 0 (answers - total)
+count-none total answers h =
+    let e : total + 0 ≡ total = omega arith in
+    ap (λ (t : ℕ). eqb t answers) (sym e) ∙ count-same total 0 answers refl h
+
+pub left-some : (total answers : ℕ) → total ≤ answers → (total ≡ answers → ⊥) → 0 < answers - total
+left-some total answers h n = by (ltb total answers) refl where
+  by : (t : Bool) → ltb total answers ≡ t → 0 < answers - total
+  by true e = omega (arith, ltb-true total answers e)
+  by false e = absurd (n (omega (arith, h, ltb-false total answers e)))
+
+-- what the code compares
+pub same-as : (five rec : List ℕ) (total : ℕ) {b : Bool} {ns : List ℕ} → ns ≡ five → b ≡ sameBytes ns (twosOf 5 (take (length rec - 10 * total) (drop (10 * total) rec))) → b ≡ sameBytes five (twosOf 5 (drop (10 * total) rec))
+same-as five rec total e h = h ∙ rw (e, to-end (10 * total) rec)
+
+pub one-there : (rec : List ℕ) (total answers : ℕ) → 0 < answers - total → 10 * answers ≤ length rec → 10 ≤ length (take (length rec - 10 * total) (drop (10 * total) rec))
+one-there rec total answers h w = omega (arith, length-take (length rec - 10 * total) (drop (10 * total) rec), length-drop (10 * total) rec)

@@ -4,19 +4,25 @@
 //     length   tag ..    html   checks   opening   answers   five numbers for each ..
 //     2        length    1      1        2         2         10 * answers
 //
-// An answer's five numbers are those of `tag_batch::numbers`. Each record is read twice, in batches of 512 answers and of one:
-// the run is the same however it is cut. What is counted is `replayOf`, specs/Replay.antt.
+// An answer's five numbers are those of `tag_batch::numbers`. Each record is read three times: in batches of 512 answers and of
+// one, since the run is the same however it is cut, and by the iterator that carries its tag, one `next` after another. What
+// is counted is `replayOf`, specs/Replay.antt.
 use lines::Mode;
 use replay::End;
 use replay::Replayed;
 use replay::Step;
 use tag_batch::Batch;
+use tag_batch::Five;
 use tag_keys::CAPACITY;
+use tag_step::IterState;
 use tag_step::Place;
 ghost use mathlib.Core.Path.{_≡_};
 ghost use Prim.Native.Nat.{_*_, _≤_};
 ghost use lib.ListN.{length};
+ghost use Rattle.scan.specs.Bytes.{sameBytes};
 ghost use Rattle.tag_step.specs.Next.{opened};
+ghost use Rattle.tag_batch.specs.Batch.{listed};
+ghost use Rattle.replay.specs.Numbers.{twosOf};
 ghost use Rattle.replay_tags.specs.Replay.{agreesWith, Lent, openedOn, recordOf, replayOf};
 
 fn wide(b: u8) -> usize
@@ -91,7 +97,79 @@ fn agrees(
     )
 }
 
-fn record_of(rest: &[u8], out: &mut [usize]) -> Step
+// An iterator that carries its tag, as it opens.
+fn opened_as(tag: &[u8], html: bool, checks: bool, opening: usize) -> IterState
+    ensures { λ s. ⌜ s ≡ opened opening html checks ⌝ }
+{
+    if html {
+        return replay_forms::opened_html(tag, opening, checks);
+    }
+    replay_forms::opened(tag, opening, checks)
+}
+
+// Whether five numbers are those that are recorded at the front of some bytes.
+fn same_answer(x: Five, recorded: &[u8]) -> bool
+    requires { ⌜ 10 ≤ length (now recorded) ⌝ }
+    ensures { λ r. ⌜ r ≡ sameBytes (listed x) (twosOf 5 (now (recorded .entry))) ⌝ }
+{
+    let five = [x.code, x.a, x.b, x.c, x.d];
+    replay::same_numbers(&five, recorded)
+}
+
+// Whether the recorded answers are those of an iterator that carries its tag.
+fn agrees_carried(
+    tag: &[u8],
+    html: bool,
+    checks: bool,
+    opening: usize,
+    answers: usize,
+    recorded: &[u8],
+) -> bool
+    requires { ⌜ 10 * answers ≤ length (now recorded) ⌝ }
+    ensures { λ r. ⌜ r ≡ agreesWith (now (tag .entry)) (opened opening html checks) answers (now (recorded .entry)) ⌝ }
+{
+    let mut state = opened_as(tag, html, checks, opening);
+    let mut total = 0;
+    loop {
+        let step = replay_forms::next(state, tag);
+        let answer = step.answer;
+        let x = tag_batch::numbers(answer);
+        if x.code == 0 {
+            return total == answers;
+        }
+        if total == answers {
+            return false;
+        }
+        let from = 10 * total;
+        if !same_answer(x, &recorded[from..]) {
+            return false;
+        }
+        let left = step.state;
+        state = left;
+        total += 1;
+    }
+}
+
+// By the one or the other.
+fn agrees_by(
+    carried: bool,
+    tag: &[u8],
+    mode: Mode,
+    opening: usize,
+    answers: usize,
+    recorded: &[u8],
+    out: &mut [usize],
+) -> bool
+    requires { ⌜ (5 ≤ length (now out)) × (10 * answers ≤ length (now recorded)) ⌝ }
+    ensures { λ r. ⌜ r ≡ agreesWith (now (tag .entry)) (opened opening (mode .html) (mode .checks)) answers (now (recorded .entry)) ⌝ }
+{
+    if carried {
+        return agrees_carried(tag, mode.html, mode.checks, opening, answers, recorded);
+    }
+    agrees(tag, mode, opening, answers, recorded, out)
+}
+
+fn record_of(rest: &[u8], carried: bool, out: &mut [usize]) -> Step
     requires { ⌜ 5 ≤ length (now out) ⌝ }
     ensures { λ r. ⌜ r ≡ recordOf (now (rest .entry)) ⌝ }
 {
@@ -112,7 +190,8 @@ fn record_of(rest: &[u8], out: &mut [usize]) -> Step
         html: wide(tail[0]) == 1,
         checks: wide(tail[1]) == 1,
     };
-    if agrees(
+    if agrees_by(
+        carried,
         &rest[2..to],
         mode,
         replay::number_at(tail, 2),
@@ -126,14 +205,14 @@ fn record_of(rest: &[u8], out: &mut [usize]) -> Step
 }
 
 // How many records agree before the first that does not, and where that one is.
-fn replay(records: &[u8], out: &mut [usize]) -> Replayed
+fn replay(records: &[u8], carried: bool, out: &mut [usize]) -> Replayed
     requires { ⌜ 5 ≤ length (now out) ⌝ }
     ensures { λ r. ⌜ r ≡ replayOf (now (records .entry)) ⌝ }
 {
     let mut run = replay::begun();
     while run.at < records.len() {
         let at = run.at;
-        let step = record_of(&records[at..], out);
+        let step = record_of(&records[at..], carried, out);
         run = replay::after(run, step, records.len());
     }
     run
@@ -187,11 +266,12 @@ fn show(run: Replayed) {
     say_end(end, b"one");
 }
 
-fn replay_twice(records: &[u8]) {
+fn replay_thrice(records: &[u8]) {
     let mut many = [0usize; 2560];
     let mut single = [0usize; 5];
-    show(replay(records, &mut many));
-    show(replay(records, &mut single));
+    show(replay(records, false, &mut many));
+    show(replay(records, false, &mut single));
+    show(replay(records, true, &mut single));
 }
 
 fn main() {
@@ -200,5 +280,5 @@ fn main() {
     if too_long() {
         return;
     }
-    replay_twice(&buffer[..n]);
+    replay_thrice(&buffer[..n]);
 }

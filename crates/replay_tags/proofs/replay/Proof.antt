@@ -12,11 +12,11 @@ use Rattle.replay_tags.proofs.replay.Statement.{statement}
 use Rattle.replay_tags.proofs.replay.Tie as tie
 
 abbrev Inv-loop : tie.InvT-loop
-Inv-loop records out₀ run₀ out run =
+Inv-loop records carried out₀ run₀ out run =
     Stands {A = ℕ} (λ x rest. recordOf rest) (λ x rest. x) records 0 0 run × (length out ≡ length out₀)
 
 abbrev μ-loop : tie.MeasureT-loop
-μ-loop records out₀ run₀ out run = length records - run .at
+μ-loop records carried out₀ run₀ out run = length records - run .at
 
 begun-requires : tie.Need-begun-requires Inv-loop μ-loop
 begun-requires c κs = search needs
