@@ -7,15 +7,15 @@ use mathlib.Core.Bool.{Bool, true, false, false≢true}
 use mathlib.Core.List.{List, [], _∷_, map}
 use native.Mathlib.Omega.{arith}
 use lib.ListN.{drop}
-use Rattle.scan.specs.First.{stopOr, firstOf, firstTo, firstFrom}
-use Rattle.scan.specs.Bytes.{isSpace, notSpace, endsKey, isByte, part, sameBytes, bytesFrom, bytes}
+use Rattle.scan.specs.First.{firstOf, firstTo, firstFrom}
+use Rattle.scan.specs.Bytes.{isSpace, notSpace, endsKey, isByte, part, inside, sameBytes, bytesFrom, bytes}
 use Rattle.scan.specs.Lists.{over}
 use Rattle.scan.proofs.Bytes.{same-refl}
 use Rattle.tag_keys.specs.Keys.{keyGood, keyBad, countGood, tableGood, nameAt, sameKey, oldestOf, earlierOf, checkedBy, checkedOf, writtenBy, countBy}
 use Rattle.tag_step.specs.Read.{isAt, isQuote, skipTo, skipOf, recoverOf, keyEq, keyTo, keyFrom, keyAt, quoted, closedOf, quotedTo, quotedOf, unquotedTo, otherOf, valueIn, valueFrom, valueAt}
 use Rattle.tag_step.specs.Next.{checkOf, keptBy, placeAt, bareBy, bareTo, bareOf, valuedBy, valuedTo, valuedOf, readKey, readAt, stepFrom, stepOf, placeGood, keysOf, stateGood, noKeys, badReading, leaves, nextOf, opened}
 use Rattle.tag_step.specs.Run.{isEnd, consUnless, runOf, answersOf}
-use Rattle.tag_parts.specs.Parts.{spanPart, keyPart, valuePart}
+use Rattle.tag_parts.specs.Parts.{keyPart, valuePart}
 use Rattle.name.specs.Split.{colonAt, hasColon, colonOf}
 use Rattle.name.specs.Reserved.{xmlPrefix, xmlnsPrefix, xmlUri, xmlnsUri, isXml, isXmlns, isXmlUri, isXmlnsUri}
 use Rattle.name.specs.Bind.{reservedBind}
@@ -61,7 +61,7 @@ pub chain-means :
     × (seenIn chain "q:a" false ≡ bound (bytes "z")) × (seenIn (drop 1 chain) "q:a" false ≡ unknown (bytes "q"))
     × (seenIn chain "xml:lang" false ≡ bound xmlUri) × (seenIn chain "xmlns:p" false ≡ bound xmlnsUri)
     × (seenIn chain ":a" true ≡ unknown [])
-unfolding meantOf meantBy prefixedBy unprefixed defaultBy innermost givenBy orElse declaring declaringDefault isXml isXmlns isEmpty sameBytes xmlPrefix xmlnsPrefix xmlUri xmlnsUri bytes bytesFrom colonOf hasColon colonAt firstFrom firstTo firstOf stopOr isByte
+unfolding meantOf meantBy prefixedBy unprefixed defaultBy innermost givenBy orElse declaring declaringDefault isXml isXmlns isEmpty sameBytes xmlPrefix xmlnsPrefix xmlUri xmlnsUri bytes bytesFrom colonOf hasColon colonAt firstFrom firstTo firstOf isByte
 chain-means = (refl, refl, refl, refl, refl, refl, refl, refl, refl, refl)
 
 -- The premises.
@@ -101,7 +101,7 @@ module _ (name n v m w : String) where
       }
 
 pub chain-fine : FineTags chain
-unfolding FineTags some each nameByte valueByte quoteByte oneOf isIn isSpace sameBytes bytes bytesFrom verdictOf verdictOn verdictNamed isRefused isOther isEmpty hasColon colonAt firstFrom firstTo firstOf stopOr isByte declaresOf declaredPrefix isNamed opening isXml isXmlns isXmlUri isXmlnsUri xmlPrefix xmlnsPrefix xmlUri xmlnsUri
+unfolding FineTags some each nameByte valueByte quoteByte oneOf isIn isSpace sameBytes bytes bytesFrom verdictOf verdictOn verdictNamed isRefused isOther isEmpty hasColon colonAt firstFrom firstTo firstOf isByte declaresOf declaredPrefix isNamed opening isXml isXmlns isXmlUri isXmlnsUri xmlPrefix xmlnsPrefix xmlUri xmlnsUri
 chain-fine = (
   tag-fine "c" "xmlns" "" "xmlns:q" "z" refl refl refl refl refl 0 refl 0 refl,
   (
@@ -111,7 +111,7 @@ chain-fine = (
 )
 
 pub chain-not-refused : NoneRefused LIMIT chain
-unfolding NoneRefused pushedOf textOf attributesThen attributeThen quoteByte stopOr firstOf firstTo firstFrom isSpace notSpace endsKey isByte part sameBytes bytesFrom bytes keyGood keyBad countGood tableGood nameAt sameKey oldestOf earlierOf checkedBy checkedOf writtenBy countBy isAt isQuote skipTo skipOf recoverOf keyEq keyTo keyFrom keyAt quoted closedOf quotedTo quotedOf unquotedTo otherOf valueIn valueFrom valueAt checkOf keptBy placeAt bareBy bareTo bareOf valuedBy valuedTo valuedOf readKey readAt stepFrom stepOf placeGood keysOf stateGood noKeys badReading leaves nextOf opened isEnd consUnless runOf answersOf spanPart keyPart valuePart xmlPrefix xmlnsPrefix xmlUri xmlnsUri isXml isXmlns isXmlUri isXmlnsUri reservedBind opening isNamed declaresOf declaredPrefix allBelow allZero over builtIn Table.textOf levelBefore isRecord opensBuiltIn isChain isRising isWithin isClear isTable validOf freshOf boundOf refusalOf appendOf namedOf judgeOf settleOf declareOf limitedOf declarationOf declarationThen declarationsOf tagAnswers thenOf declareAll raisedOf pushOf
+unfolding NoneRefused pushedOf textOf attributesThen attributeThen quoteByte firstOf firstTo firstFrom isSpace notSpace endsKey isByte part sameBytes bytesFrom bytes keyGood keyBad countGood tableGood nameAt sameKey oldestOf earlierOf checkedBy checkedOf writtenBy countBy isAt isQuote skipTo skipOf recoverOf keyEq keyTo keyFrom keyAt quoted closedOf quotedTo quotedOf unquotedTo otherOf valueIn valueFrom valueAt checkOf keptBy placeAt bareBy bareTo bareOf valuedBy valuedTo valuedOf readKey readAt stepFrom stepOf placeGood keysOf stateGood noKeys badReading leaves nextOf opened isEnd consUnless runOf answersOf inside keyPart valuePart xmlPrefix xmlnsPrefix xmlUri xmlnsUri isXml isXmlns isXmlUri isXmlnsUri reservedBind opening isNamed declaresOf declaredPrefix allBelow allZero over builtIn Table.textOf levelBefore isRecord opensBuiltIn isChain isRising isWithin isClear isTable validOf freshOf boundOf refusalOf appendOf namedOf judgeOf settleOf declareOf limitedOf declarationOf declarationThen declarationsOf tagAnswers thenOf declareAll raisedOf pushOf
 chain-not-refused = (refl, (refl, (refl, tt)))
 
 -- What lookups hand back after the three pushes.
