@@ -4,7 +4,7 @@ use mathlib.Core.Path.{_≡_}
 use mathlib.Core.List.{List, [], _∷_}
 use native.Mathlib.Omega.{arith}
 use lib.ListN.{getD, replicate}
-use Rattle.scan.specs.First.{stopOr, firstOf, firstTo, firstFrom}
+use Rattle.scan.specs.First.{firstOf, firstTo, firstFrom}
 use Rattle.scan.specs.Bytes.{isByte, part, inside, sameBytes, bytesFrom, bytes}
 use Rattle.name.specs.Split.{colonAt, hasColon, prefixOf}
 use Rattle.scope_table.specs.Lists.{lastBelow, allBelow, allZero}
@@ -33,7 +33,7 @@ answered-instance = names-answered scoped scoped-valid tag from to 2 (replicate 
 
 -- bound, bound by the default, unknown
 pub kinds-instance : (getD (after .kinds) 0 0 ≡ 1) × (getD (after .kinds) 1 0 ≡ 1) × (getD (after .kinds) 2 0 ≡ 2)
-unfolding stopOr firstOf firstTo firstFrom isByte part inside sameBytes bytesFrom bytes colonAt hasColon prefixOf lastBelow allBelow allZero prefixIn builtIn textOf levelBefore isRecord opensBuiltIn isChain isRising isWithin isClear isTable validOf resolvedNumbers hasPrefix isDefault valueOr explicitOf defaultOf amongOf resolvePrefixOf resolveOf codeOf
+unfolding firstOf firstTo firstFrom isByte part inside sameBytes bytesFrom bytes colonAt hasColon prefixOf lastBelow allBelow allZero prefixIn builtIn textOf levelBefore isRecord opensBuiltIn isChain isRising isWithin isClear isTable validOf resolvedNumbers hasPrefix isDefault valueOr explicitOf defaultOf amongOf resolvePrefixOf resolveOf codeOf
 kinds-instance = (
   kind-as-alone scoped scoped-valid tag from to 2 (replicate 3 7) (replicate 3 7) (replicate 3 7) 0 (omega arith),
   kind-as-alone scoped scoped-valid tag from to 2 (replicate 3 7) (replicate 3 7) (replicate 3 7) 1 (omega arith),
@@ -44,7 +44,7 @@ kinds-instance = (
 pub bounds-instance :
     ((getD (after .begins) 1 0 ≡ 73) × (getD (after .ends) 1 0 ≡ 74))
     × ((getD (after .begins) 2 0 ≡ 0) × (getD (after .ends) 2 0 ≡ 1))
-unfolding stopOr firstOf firstTo firstFrom isByte part inside sameBytes bytesFrom bytes colonAt hasColon prefixOf lastBelow allBelow allZero prefixIn builtIn textOf levelBefore isRecord opensBuiltIn isChain isRising isWithin isClear isTable validOf resolvedNumbers hasPrefix isDefault valueOr explicitOf defaultOf amongOf resolvePrefixOf resolveOf
+unfolding firstOf firstTo firstFrom isByte part inside sameBytes bytesFrom bytes colonAt hasColon prefixOf lastBelow allBelow allZero prefixIn builtIn textOf levelBefore isRecord opensBuiltIn isChain isRising isWithin isClear isTable validOf resolvedNumbers hasPrefix isDefault valueOr explicitOf defaultOf amongOf resolvePrefixOf resolveOf
 bounds-instance = (
   bounds-as-alone scoped scoped-valid tag from to 2 (replicate 3 7) (replicate 3 7) (replicate 3 7) 1 (omega arith),
   bounds-as-alone scoped scoped-valid tag from to 2 (replicate 3 7) (replicate 3 7) (replicate 3 7) 2 (omega arith),

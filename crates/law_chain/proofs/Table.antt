@@ -8,9 +8,10 @@ use native.Mathlib.Numerals.{add-one}
 use native.Mathlib.Omega.{arith}
 use lib.Dec.{eqb}
 use lib.ListN.{length}
-use borrow.Author.Tests.{ne-eqb, le-leb}
+use borrow.Author.Tests.{ne-eqb}
 use Rattle.scan.specs.First.{pick}
-use Rattle.scan.specs.Bytes.{part, inside, sameBytes}
+use Rattle.scan.proofs.Bytes.{inside-part}
+use Rattle.scan.specs.Bytes.{inside, sameBytes}
 use Rattle.name.specs.Reserved.{xmlPrefix, xmlnsPrefix, xmlUri, xmlnsUri}
 use Rattle.name.specs.Verdict.{isEmpty}
 use Rattle.scope_table.specs.Records.{recordAt, valueStart, valueEnd, prefixIn, valueIn}
@@ -108,10 +109,6 @@ newest q (b ∷ bs) = pick (sameBytes (b .prefix) q) (gives (b .value)) (newest 
 unfoldable pub seenBy : Seen → Stated → Seen
 seenBy other (gives v) = pick (isEmpty v) other (bound v)
 seenBy other nowhere = other
-
-pub inside-part : (s : List ℕ) (a e : ℕ) → a ≤ e → e ≤ length s → inside s a e ≡ part s a e
-unfolding inside
-inside-part s a e h g = rw (le-leb a e h, le-leb e (length s) g)
 
 empty-same : (p : List ℕ) → eqb (length p) 0 ≡ sameBytes p []
 unfolding sameBytes

@@ -7,7 +7,7 @@ use mathlib.Core.Bool.{Bool, true, false}
 use mathlib.Core.List.{List, [], _∷_, _++_, map}
 use native.Mathlib.Omega.{arith}
 use lib.ListN.{length, replicate, length-replicate}
-use Rattle.scan.specs.First.{stopOr, firstOf, firstTo, firstFrom}
+use Rattle.scan.specs.First.{firstOf, firstTo, firstFrom}
 use Rattle.scan.specs.Bytes.{isSpace, notSpace, endsKey, isByte, part, sameBytes, bytesFrom, bytes}
 use Rattle.tag_keys.specs.Keys.{capacity, keyGood, keyBad, countGood, tableGood, nameAt, sameKey, oldestOf, earlierOf, checkedBy, checkedOf, writtenBy, countBy}
 use Rattle.tag_step.specs.declared.Place.the-variants.{SkipValue}
@@ -171,7 +171,7 @@ again = nextOf (bytes "a='1' a=\"2 3\" b='4'") (opened 0 false true) .state
 pub resume-example :
     let s = bytes "a='1' a=\"2 3\" b='4'" in
     (nextOf s again .answer ≡ Duplicated 6 0) × (recoverOf s (nextOf s again .state .place) ≡ From 10)
-unfolding stopOr firstOf firstTo firstFrom isSpace notSpace endsKey isByte part sameBytes bytesFrom bytes keyGood keyBad countGood tableGood nameAt sameKey oldestOf earlierOf checkedBy checkedOf writtenBy countBy isAt isQuote skipTo skipOf recoverOf keyEq keyTo keyFrom keyAt quoted closedOf quotedTo quotedOf unquotedTo otherOf valueIn valueFrom valueAt checkOf keptBy placeAt bareBy bareTo bareOf valuedBy valuedTo valuedOf readKey readAt stepFrom stepOf placeGood keysOf stateGood noKeys badReading leaves nextOf opened fromOrEnded fromWhitespace afterKey afterDuplicate resumesAt
+unfolding firstOf firstTo firstFrom isSpace notSpace endsKey isByte part sameBytes bytesFrom bytes keyGood keyBad countGood tableGood nameAt sameKey oldestOf earlierOf checkedBy checkedOf writtenBy countBy isAt isQuote skipTo skipOf recoverOf keyEq keyTo keyFrom keyAt quoted closedOf quotedTo quotedOf unquotedTo otherOf valueIn valueFrom valueAt checkOf keptBy placeAt bareBy bareTo bareOf valuedBy valuedTo valuedOf readKey readAt stepFrom stepOf placeGood keysOf stateGood noKeys badReading leaves nextOf opened fromOrEnded fromWhitespace afterKey afterDuplicate resumesAt
 resume-example = (refl, resume-exact (bytes "a='1' a=\"2 3\" b='4'") again)
 
 -- From an opened iterator there are at most as many answers as bytes; a skip place outside the tag is answered once, by 7.
@@ -183,5 +183,5 @@ abbrev outside : IterState
 outside = lentState (SkipValue 1) false true (replicate capacity 0) (replicate capacity 0) 0
 
 pub bad-run-example : answersOf (bytes "a") outside ≡ BadState ∷ []
-unfolding stopOr firstOf firstTo bytes bytesFrom keyGood keyBad countGood tableGood placeGood stateGood
+unfolding firstOf firstTo bytes bytesFrom keyGood keyBad countGood tableGood placeGood stateGood
 bad-run-example = bad-run-ends (bytes "a") outside (record { starts = length-replicate {A = ℕ} capacity 0; ends = length-replicate {A = ℕ} capacity 0 }) refl

@@ -6,15 +6,15 @@ use mathlib.Core.List.{List, [], _∷_, _++_, map}
 use native.Mathlib.Omega.{arith}
 use lib.ListN.{length, drop}
 use lib.Seq.{drop-append-seam}
-use borrow.Author.Tests.{le-leb}
-use Rattle.scan.specs.Bytes.{part}
+use Rattle.scan.specs.Bytes.{inside}
+use Rattle.scan.proofs.Bytes.{inside-part}
 use Rattle.tag_keys.specs.Keys.{capacity}
 use Rattle.tag_step.specs.declared.Span.{Span}
 use Rattle.tag_step.specs.declared.Answer.{Answer}
 use Rattle.tag_step.specs.Read.{span}
 use Rattle.tag_step.specs.Next.{opened}
 use Rattle.tag_step.specs.Numbers.{numbersOf}
-use Rattle.tag_parts.specs.Parts.{spanPart, keyPart, valuePart}
+use Rattle.tag_parts.specs.Parts.{keyPart, valuePart}
 use Rattle.tag_step.specs.Run.{answersOf}
 use Rattle.law_wellformed.specs.Grammar.{Quote, double, single, Attribute, Body, attributesThen, textOf, WellFormed, AllQuoted, QuotedBody, HasBody, Distinct}
 use Rattle.law_wellformed.specs.Expected.{nameStart, nameEnd, valueStart, valueEnd, next, inQuotes, attributeOf, attributesOf, isRefusal, noRefusal}
@@ -56,16 +56,12 @@ module _ (pre : List ℕ) (b : Body) where
 
 -- The bounds mark the names and the values.
 
-span-part : (s : List ℕ) (x y : ℕ) → x ≤ y → y ≤ length s → spanPart s (span x y) ≡ part s x y
-unfolding spanPart
-span-part s x y h g = rw (le-leb x y h, le-leb y (length s) g)
-
-key-of : (s : List ℕ) (q : Quote) (key value : Span) → keyPart s (inQuotes q key value) ≡ spanPart s key
+key-of : (s : List ℕ) (q : Quote) (key value : Span) → keyPart s (inQuotes q key value) ≡ inside s (key .start) (key .end)
 unfolding keyPart inQuotes
 key-of s double key value = refl
 key-of s single key value = refl
 
-value-of : (s : List ℕ) (q : Quote) (key value : Span) → valuePart s (inQuotes q key value) ≡ spanPart s value
+value-of : (s : List ℕ) (q : Quote) (key value : Span) → valuePart s (inQuotes q key value) ≡ inside s (value .start) (value .end)
 unfolding valuePart inQuotes
 value-of s double key value = refl
 value-of s single key value = refl
@@ -86,11 +82,11 @@ module _ (s : List ℕ) where
       let later = marks more w (next o a) (fine .1) (at-next s o a rest here (fine .0)) in
       let n : keyPart s (attributeOf o a) ≡ a .name =
       key-of s (a .quote) (span (nameStart o a) (nameEnd o a)) (span (valueStart o a) (valueEnd o a))
-      ∙ span-part s (nameStart o a) (nameEnd o a) (omega (arith, name-order s o a rest here (fine .0))) (name-inside s o a rest here (fine .0))
+      ∙ inside-part s (nameStart o a) (nameEnd o a) (omega (arith, name-order s o a rest here (fine .0))) (name-inside s o a rest here (fine .0))
       ∙ name-is s o a rest here (fine .0) in
       let v : valuePart s (attributeOf o a) ≡ a .value =
       value-of s (a .quote) (span (nameStart o a) (nameEnd o a)) (span (valueStart o a) (valueEnd o a))
-      ∙ span-part s (valueStart o a) (valueEnd o a) (value-order s o a rest here (fine .0) .0) (value-order s o a rest here (fine .0) .1)
+      ∙ inside-part s (valueStart o a) (valueEnd o a) (value-order s o a rest here (fine .0) .0) (value-order s o a rest here (fine .0) .1)
       ∙ value-is s o a rest here (fine .0) in
       (rw (n, later .0), rw (v, later .1))
 

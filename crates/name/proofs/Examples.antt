@@ -4,7 +4,7 @@ use Prim.Native.Nat.{ℕ}
 use Prim.Native.String.{String}
 use mathlib.Core.Path.{_≡_, refl}
 use mathlib.Core.List.{List, [], _∷_, map}
-use Rattle.scan.specs.First.{firstFrom, firstTo, firstOf, stopOr}
+use Rattle.scan.specs.First.{firstFrom, firstTo, firstOf}
 use Rattle.scan.specs.Bytes.{bytes, bytesFrom, sameBytes, isByte}
 use Rattle.name.specs.Split.{colonAt, hasColon, colonOf, prefixOf, localAt, localOf}
 use Rattle.name.specs.Reserved.{xmlPrefix, xmlnsPrefix, xmlUri, xmlnsUri, isXml, isXmlns, isXmlUri, isXmlnsUri}
@@ -50,7 +50,7 @@ pub names-split :
     ∷ splits (At 3) "xml" "a" Nothing ""
     ∷ splits (At 5) "Xmlns" "p" Nothing ""
     ∷ []
-unfolding colonOf hasColon colonAt prefixOf localOf localAt declaresOf declaredPrefix isNamed opening isXmlns xmlnsPrefix firstFrom firstTo firstOf stopOr isByte sameBytes bytes bytesFrom
+unfolding colonOf hasColon colonAt prefixOf localOf localAt declaresOf declaredPrefix isNamed opening isXmlns xmlnsPrefix firstFrom firstTo firstOf isByte sameBytes bytes bytesFrom
 names-split = refl
 
 -- what is said of one declaration: by Namespaces 1.0, and by the rules on what is reserved (of the declared prefix, which
@@ -97,5 +97,5 @@ pub declarations-judged :
     ∷ is Yes Fine
     ∷ is NoDeclaration Fine
     ∷ []
-unfolding verdictOf verdictOn verdictNamed isRefused isOther isEmpty reservedBind hasColon colonAt declaresOf declaredPrefix isNamed opening isXml isXmlns isXmlUri isXmlnsUri xmlPrefix xmlnsPrefix xmlUri xmlnsUri firstFrom firstTo firstOf stopOr isByte sameBytes bytes bytesFrom
+unfolding verdictOf verdictOn verdictNamed isRefused isOther isEmpty reservedBind hasColon colonAt declaresOf declaredPrefix isNamed opening isXml isXmlns isXmlUri isXmlnsUri xmlPrefix xmlnsPrefix xmlUri xmlnsUri firstFrom firstTo firstOf isByte sameBytes bytes bytesFrom
 declarations-judged = refl

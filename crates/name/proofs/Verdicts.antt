@@ -11,7 +11,7 @@ use denote.Enum.Declared.{tagOf}
 use lib.ListN.{length, getD}
 use lib.Dec.{eqb, ltb}
 use borrow.Author.Tests.{eqb-false, eq-eqb, ne-eqb, not-true, not-false}
-use Rattle.scan.specs.First.{pick, firstFrom, firstTo, firstOf, stopOr}
+use Rattle.scan.specs.First.{pick, firstFrom, firstTo, firstOf}
 use Rattle.scan.specs.Bytes.{bytes, bytesFrom, sameBytes, isByte}
 use Rattle.scan.proofs.Bytes.{both-false}
 use Rattle.name.specs.Split.{hasColon, colonAt}
@@ -93,7 +93,7 @@ own-tests false false false false h = let z : _≡_ {A = ℕ} 0 1 = cc in absurd
 
 -- `xml` to its own URI is allowed
 own-allowed : verdictNamed xmlPrefix xmlUri ≡ true
-unfolding verdictNamed isRefused isXml isXmlns isXmlUri isXmlnsUri isOther isEmpty hasColon colonAt firstFrom firstTo firstOf stopOr isByte sameBytes xmlPrefix xmlnsPrefix xmlUri xmlnsUri bytes bytesFrom
+unfolding verdictNamed isRefused isXml isXmlns isXmlUri isXmlnsUri isOther isEmpty hasColon colonAt firstFrom firstTo firstOf isByte sameBytes xmlPrefix xmlnsPrefix xmlUri xmlnsUri bytes bytesFrom
 own-allowed = refl
 
 module _ (prefix value : List ℕ) where

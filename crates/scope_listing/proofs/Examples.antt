@@ -6,7 +6,7 @@ use mathlib.Core.Bool.{true}
 use mathlib.Core.List.{[], _∷_, _++_}
 use native.Mathlib.Omega.{arith}
 use lib.ListN.{length}
-use Rattle.scan.specs.First.{stopOr, firstOf, firstTo}
+use Rattle.scan.specs.First.{firstOf, firstTo}
 use Rattle.scan.specs.Bytes.{part, Marks, sameBytes, bytesFrom, bytes}
 use Rattle.scan.specs.Lists.{padTo}
 use Rattle.scope_table.specs.Lists.{allBelow, allZero}
@@ -39,7 +39,7 @@ nested-long = omega arith
 
 -- in effect are the default and the inner `p`
 pub in-effect-instance : listAll (λ place. bindingsOf place nested) 7 0 ≡ Binding 73 73 74 ∷ Binding 76 77 78 ∷ []
-unfolding stopOr firstOf firstTo part sameBytes bytesFrom bytes prefixIn builtIn hasPrefix hasValue isOverridden inEffect shownOf showing
+unfolding firstOf firstTo part sameBytes bytesFrom bytes prefixIn builtIn hasPrefix hasValue isOverridden inEffect shownOf showing
 in-effect-instance = lists-in-effect nested nested-valid 0
 
 -- at level 1 also the `p` that is overridden
@@ -48,7 +48,7 @@ unfolding hasValue atLevel shownOf showing
 level-instance = lists-level nested 1 nested-valid 0
 
 pub effect-resolves-instance : resolvePrefixOf (bytes "p") true true nested ≡ Bound 77 78
-unfolding stopOr firstOf firstTo part sameBytes bytesFrom bytes prefixIn builtIn hasPrefix isDefault hasValue isOverridden inEffect
+unfolding firstOf firstTo part sameBytes bytesFrom bytes prefixIn builtIn hasPrefix isDefault hasValue isOverridden inEffect
 effect-resolves-instance = in-effect-resolves nested nested-valid nested-long 4 (omega arith) refl
 
 -- from record 3 on, with 21 zeros after the text: record 4
@@ -59,9 +59,9 @@ pad-in-effect-instance =
 
 -- the inner `p` and its `w`, and at level 1 the outer one and its `v`
 pub bindings-mark-instance : Marks (nested .text) 76 77 (bytes "p") × Marks (nested .text) 77 78 (bytes "w")
-unfolding stopOr firstOf firstTo part sameBytes bytesFrom bytes allBelow allZero prefixIn valueIn builtIn textOf levelBefore isRecord opensBuiltIn isChain isRising isWithin isClear isTable validOf hasPrefix hasValue isOverridden inEffect shownOf listedAt pastBuiltIn bindingsOf
+unfolding firstOf firstTo part sameBytes bytesFrom bytes allBelow allZero prefixIn valueIn builtIn textOf levelBefore isRecord opensBuiltIn isChain isRising isWithin isClear isTable validOf hasPrefix hasValue isOverridden inEffect shownOf listedAt pastBuiltIn bindingsOf
 bindings-mark-instance = bindings-mark nested nested-valid nested-long 3
 
 pub level-marks-instance : Marks (nested .text) 74 75 (bytes "p") × Marks (nested .text) 75 76 (bytes "v")
-unfolding stopOr firstOf firstTo part sameBytes bytesFrom bytes allBelow allZero prefixIn valueIn builtIn textOf levelBefore isRecord opensBuiltIn isChain isRising isWithin isClear isTable validOf hasValue atLevel shownOf listedAt bindingsAtOf
+unfolding firstOf firstTo part sameBytes bytesFrom bytes allBelow allZero prefixIn valueIn builtIn textOf levelBefore isRecord opensBuiltIn isChain isRising isWithin isClear isTable validOf hasValue atLevel shownOf listedAt bindingsAtOf
 level-marks-instance = level-marks nested nested-valid nested-long 1 3

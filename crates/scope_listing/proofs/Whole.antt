@@ -11,7 +11,7 @@ use native.Mathlib.Omega.{arith}
 use lib.Dec.{eqb, leb, ltb}
 use lib.ListN.{length, take, drop}
 use borrow.Author.Tests.{eq-eqb, ne-eqb, eqb-true, eqb-false, leb-true, leb-false, lt-ltb, le-ltb, ltb-true, ltb-false, not-true}
-use Rattle.scan.specs.First.{pick, stopOr, firstOf, firstTo}
+use Rattle.scan.specs.First.{pick, firstOf, firstTo}
 use Rattle.scan.specs.Bytes.{part, sameBytes}
 use Rattle.scan.proofs.Laws.{IsFirst, to-first, to-past}
 use Rattle.scan.proofs.Bytes.{both, same-refl}
@@ -38,8 +38,8 @@ module _ (rows : ℕ → NamespaceBinding) (p : ℕ → Bool) where
       (r < i + d → showing rows p i d ≡ shownOf (rows r) ∷ showing rows p (suc r) (i + d - suc r))
       × (i + d ≤ r → showing rows p i d ≡ [])
 
-  split-by : (i d r : ℕ) (t : Bool) → p i ≡ t → Split (suc i) d r → Split i (suc d) (stopOr t i r)
-  unfolding Split showing stopOr
+  split-by : (i d r : ℕ) (t : Bool) → p i ≡ t → Split (suc i) d r → Split i (suc d) (pick t i r)
+  unfolding Split showing
   split-by i d r true e s =
       let q : i + suc d - suc i ≡ d = omega arith in
       (λ h. rw (e, q), λ h. absurd (omega (arith, h)))

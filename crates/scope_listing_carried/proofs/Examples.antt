@@ -4,7 +4,7 @@ use mathlib.Core.Path.{_≡_, refl}
 use mathlib.Core.Bool.{true}
 use mathlib.Core.List.{[], _∷_, _++_}
 use denote.Ref.{RefT, now}
-use Rattle.scan.specs.First.{stopOr, firstOf, firstTo}
+use Rattle.scan.specs.First.{firstOf, firstTo}
 use Rattle.scan.specs.Bytes.{part, sameBytes, bytesFrom, bytes}
 use Rattle.scope_table.specs.Lists.{allBelow, allZero}
 use Rattle.scope_table.specs.Records.{prefixIn}
@@ -31,7 +31,7 @@ abbrev scope : RefT NamespaceResolver
 scope = record { ptr = (0, 0); name = 0; now = twoTags }
 
 pub iterates-in-effect-instance : iterated (λ it. listedOn it .answer) afterShown 6 (inEffectOn scope) ≡ Binding 75 76 77 ∷ Binding 77 77 78 ∷ []
-unfolding stopOr firstOf firstTo part sameBytes bytesFrom bytes prefixIn builtIn hasPrefix hasValue isOverridden inEffect shownOf showing
+unfolding firstOf firstTo part sameBytes bytesFrom bytes prefixIn builtIn hasPrefix hasValue isOverridden inEffect shownOf showing
 iterates-in-effect-instance = iterates-in-effect scope two-tags-valid 0
 
 pub iterates-level-instance : iterated (λ it. listedOnLevel it .answer) afterShownAt 6 (levelOn scope 1) ≡ Binding 73 74 75 ∷ []

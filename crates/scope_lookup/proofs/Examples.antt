@@ -5,7 +5,7 @@ use mathlib.Core.Bool.{true, false}
 use mathlib.Core.List.{[], _∷_, _++_}
 use native.Mathlib.Omega.{arith}
 use lib.ListN.{length}
-use Rattle.scan.specs.First.{stopOr, firstOf, firstTo, firstFrom}
+use Rattle.scan.specs.First.{firstOf, firstTo, firstFrom}
 use Rattle.scan.specs.Bytes.{isByte, part, Marks, sameBytes, bytesFrom, bytes}
 use Rattle.scan.specs.Lists.{padTo}
 use Rattle.name.specs.Split.{colonAt, hasColon, prefixOf}
@@ -35,7 +35,7 @@ scoped-long = omega arith
 
 -- `p:a` is bound to the `v`, `a` as an element to the `u`; of `q:a` the `q` is unknown
 pub marks-instance : Marks (scoped .text) 75 76 (bytes "v") × Marks (scoped .text) 73 74 (bytes "u") × Marks (bytes "q:a") 0 1 (bytes "q")
-unfolding stopOr firstOf firstTo firstFrom isByte part sameBytes bytesFrom bytes colonAt hasColon prefixOf lastBelow allBelow allZero prefixIn valueIn builtIn textOf levelBefore isRecord opensBuiltIn isChain isRising isWithin isClear isTable validOf hasPrefix isDefault valueOr explicitOf defaultOf amongOf resolvePrefixOf resolveOf valueNth
+unfolding firstOf firstTo firstFrom isByte part sameBytes bytesFrom bytes colonAt hasColon prefixOf lastBelow allBelow allZero prefixIn valueIn builtIn textOf levelBefore isRecord opensBuiltIn isChain isRising isWithin isClear isTable validOf hasPrefix isDefault valueOr explicitOf defaultOf amongOf resolvePrefixOf resolveOf valueNth
 marks-instance = (
   resolve-marks scoped scoped-valid scoped-long (bytes "p:a") false,
   resolve-marks scoped scoped-valid scoped-long (bytes "a") true,

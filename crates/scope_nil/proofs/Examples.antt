@@ -4,7 +4,7 @@ use mathlib.Core.Path.{_≡_, refl, sym}
 use mathlib.Core.Bool.{Bool, true, false}
 use mathlib.Core.List.{List, [], _∷_, _++_}
 use lib.ListN.{length-replicate}
-use Rattle.scan.specs.First.{stopOr, firstOf, firstTo, firstFrom}
+use Rattle.scan.specs.First.{firstOf, firstTo, firstFrom}
 use Rattle.scan.specs.Bytes.{isSpace, notSpace, endsKey, isByte, part, inside, sameBytes, bytesFrom, bytes}
 use Rattle.tag_keys.specs.Keys.{capacity, keyGood, keyBad, countGood, tableGood, nameAt, sameKey, oldestOf, earlierOf, checkedBy, checkedOf, writtenBy, countBy}
 use Rattle.tag_step.specs.declared.IterState.{IterState}
@@ -12,7 +12,7 @@ use Rattle.tag_step.specs.Read.{isAt, isQuote, skipTo, skipOf, recoverOf, keyEq
 use Rattle.tag_step.specs.Next.{checkOf, keptBy, placeAt, bareBy, bareTo, bareOf, valuedBy, valuedTo, valuedOf, readKey, readAt, stepFrom, stepOf, placeGood, keysOf, stateGood, noKeys, badReading, leaves, nextOf, opened}
 use Rattle.tag_step.specs.Run.{isEnd, consUnless, runOf, answersOf}
 use Rattle.tag_step.proofs.Good.{Sized, opened-good}
-use Rattle.tag_parts.specs.Parts.{spanPart, keyPart, valuePart, truthOf}
+use Rattle.tag_parts.specs.Parts.{keyPart, valuePart, truthOf}
 use Rattle.name.specs.Split.{colonAt, hasColon, prefixOf, localAt, localOf}
 use Rattle.scope_table.specs.Lists.{lastBelow, allBelow, allZero}
 use Rattle.scope_table.specs.Records.{prefixIn}
@@ -48,7 +48,7 @@ abbrev tag : List ℕ
 tag = bytes "nil='1' xsi:nil=1 xsi:nil=\"true\""
 
 pub nil-instance : (hasNilOf tag (start false) typed .answer ≡ Yes) × (hasNilOf tag (start true) typed .answer ≡ No)
-unfolding stopOr firstOf firstTo firstFrom isSpace notSpace endsKey isByte part inside sameBytes bytesFrom bytes keyGood keyBad countGood tableGood nameAt sameKey oldestOf earlierOf checkedBy checkedOf writtenBy countBy isAt isQuote skipTo skipOf recoverOf keyEq keyTo keyFrom keyAt quoted closedOf quotedTo quotedOf unquotedTo otherOf valueIn valueFrom valueAt checkOf keptBy placeAt bareBy bareTo bareOf valuedBy valuedTo valuedOf readKey readAt stepFrom stepOf placeGood keysOf stateGood noKeys badReading leaves nextOf opened isEnd consUnless runOf answersOf spanPart keyPart valuePart truthOf colonAt hasColon prefixOf localAt localOf lastBelow prefixIn builtIn hasPrefix isDefault valueOr explicitOf defaultOf amongOf uriPart isYes instanceUri isNil saysNil anyNil
+unfolding firstOf firstTo firstFrom isSpace notSpace endsKey isByte part inside sameBytes bytesFrom bytes keyGood keyBad countGood tableGood nameAt sameKey oldestOf earlierOf checkedBy checkedOf writtenBy countBy isAt isQuote skipTo skipOf recoverOf keyEq keyTo keyFrom keyAt quoted closedOf quotedTo quotedOf unquotedTo otherOf valueIn valueFrom valueAt checkOf keptBy placeAt bareBy bareTo bareOf valuedBy valuedTo valuedOf readKey readAt stepFrom stepOf placeGood keysOf stateGood noKeys badReading leaves nextOf opened isEnd consUnless runOf answersOf keyPart valuePart truthOf colonAt hasColon prefixOf localAt localOf lastBelow prefixIn builtIn hasPrefix isDefault valueOr explicitOf defaultOf amongOf uriPart isYes instanceUri isNil saysNil anyNil
 nil-instance = (
   nil-among-answers tag (start false) typed typed-valid (sized false) (opened-good tag 0 false false),
   nil-among-answers tag (start true) typed typed-valid (sized true) (opened-good tag 0 false true),
@@ -59,5 +59,5 @@ unfolding bytesFrom bytes
 search-instance = search-whole 16 typed tag (start true) (sized true) (opened-good tag 0 false true)
 
 pub attribute-instance : resolveOf (bytes "xsi:nil") false typed ≡ Bound 76 117
-unfolding stopOr firstOf firstTo firstFrom isByte part sameBytes bytesFrom bytes colonAt hasColon prefixOf lastBelow allBelow allZero prefixIn builtIn textOf levelBefore isRecord opensBuiltIn isChain isRising isWithin isClear isTable validOf hasPrefix isDefault valueOr explicitOf defaultOf amongOf instanceUri
+unfolding firstOf firstTo firstFrom isByte part sameBytes bytesFrom bytes colonAt hasColon prefixOf lastBelow allBelow allZero prefixIn builtIn textOf levelBefore isRecord opensBuiltIn isChain isRising isWithin isClear isTable validOf hasPrefix isDefault valueOr explicitOf defaultOf amongOf instanceUri
 attribute-instance = sym (resolves-attribute typed (bytes "xsi:nil") typed-valid)
