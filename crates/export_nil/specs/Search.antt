@@ -10,23 +10,23 @@ use Rattle.export_cursor.specs.Cursor.{placeFrom, settledOf, heldIn}
 use Rattle.export_memory.specs.Boundary.{headIn}
 
 -- what a call answers, and the iterator's arrays after it
-pub record Found : Type 0 where
+pub record NilEnd : Type 0 where
   pub result : ℕ
   pub starts : List ℕ
   pub ends : List ℕ
   pub state : List ℕ
 
-abbrev pub found : ℕ → (starts ends state : List ℕ) → Found
-found r starts ends state = record { result = r; starts = starts; ends = ends; state = state }
+abbrev pub nilEnd : ℕ → (starts ends state : List ℕ) → NilEnd
+nilEnd r starts ends state = record { result = r; starts = starts; ends = ends; state = state }
 
 -- What a search leaves: of the iterator's numbers the fourth is not touched.
-unfoldable pub foundOf : (state : List ℕ) (before : Place) → HasNil → Found
-foundOf state before h =
-    found (nilNumber (h .answer)) (h .state .starts) (h .state .ends)
+unfoldable pub nilEndOf : (state : List ℕ) (before : Place) → HasNil → NilEnd
+nilEndOf state before h =
+    nilEnd (nilNumber (h .answer)) (h .state .starts) (h .state .ends)
     (settledOf state before (h .state .place) (h .state .count))
 
 -- The iterator and the resolver as they stand in lent memory.
-unfoldable pub hasNilBy : (text records head tag keyStarts keyEnds state : List ℕ) (html checks : Bool) → Found
+unfoldable pub hasNilBy : (text records head tag keyStarts keyEnds state : List ℕ) (html checks : Bool) → NilEnd
 hasNilBy text records head tag keyStarts keyEnds state html checks =
-    foundOf state (placeFrom (length tag) (getD state 0 0) (getD state 1 0))
+    nilEndOf state (placeFrom (length tag) (getD state 0 0) (getD state 1 0))
     (hasNilIn tag (heldIn tag keyStarts keyEnds state html checks) text records (headIn head))

@@ -4,7 +4,7 @@
 use scope_nil::Standing;
 ghost use mathlib.Core.Path.{_≡_};
 ghost use Rattle.tag_parts.specs.Parts.{truthOf, truthNumber};
-ghost use Rattle.export_nil.specs.Search.{found, hasNilBy};
+ghost use Rattle.export_nil.specs.Search.{nilEnd, hasNilBy};
 
 // What a value says: `tag_parts::as_bool`. 0 a no, 1 a yes, 2 neither.
 #[no_mangle]
@@ -30,7 +30,7 @@ pub extern "C" fn mz_has_nil<'k, 't>(
     checks: bool,
 ) -> usize
     ensures { λ r.
-        ⌜ found r (now («key_starts» .exit)) (now («key_ends» .exit)) (now (state .exit))
+        ⌜ nilEnd r (now («key_starts» .exit)) (now («key_ends» .exit)) (now (state .exit))
         ≡ hasNilBy (now (text .entry)) (now (records .entry)) (now (head .entry)) (now (tag .entry))
         (now («key_starts» .entry)) (now («key_ends» .entry)) (now (state .entry)) html checks ⌝ }
 {

@@ -12,7 +12,7 @@ use Rattle.scan.specs.Bytes.{isSpace, notSpace, endsKey, isByte, part, inside, 
 use Rattle.scan.specs.Lists.{over}
 use Rattle.scan.proofs.Bytes.{same-refl}
 use Rattle.tag_keys.specs.Keys.{keyGood, keyBad, countGood, tableGood, nameAt, sameKey, oldestOf, earlierOf, checkedBy, checkedOf, writtenBy, countBy}
-use Rattle.tag_step.specs.Read.{isAt, isQuote, skipTo, skipOf, recoverOf, keyEq, keyTo, keyFrom, keyAt, quoted, closedOf, quotedTo, quotedOf, unquotedTo, otherOf, valueIn, valueFrom, valueAt}
+use Rattle.tag_step.specs.Read.{isAt, isQuote, skipTo, skipOf, recoverOf, keyEq, keyTo, keyFrom, keyAt, quoted, closedOf, quotedTo, quotedOf, unquotedTo, otherOf, valueBy, valueFrom, valueAt}
 use Rattle.tag_step.specs.Next.{checkOf, keptBy, placeAt, bareBy, bareTo, bareOf, valuedBy, valuedTo, valuedOf, readKey, readAt, stepFrom, stepOf, placeGood, keysOf, stateGood, noKeys, badReading, leaves, nextOf, opened}
 use Rattle.tag_step.specs.Run.{isEnd, consUnless, runOf, answersOf}
 use Rattle.tag_parts.specs.Parts.{keyPart, valuePart}
@@ -25,7 +25,7 @@ use Rattle.name.specs.declared.Verdict.the-variants.{No}
 use Rattle.name.proofs.Split.{split-joins, prefix-colon-free}
 use Rattle.name.proofs.Declared.{default-exactly, named-exactly, nothing-exactly}
 use Rattle.name.proofs.Verdicts.{isRefusal, yes-means, yes-binds}
-use Rattle.law_wellformed.specs.Grammar.{each, some, isIn, oneOf, nameByte, Quote, double, quoteByte, valueByte, Piece, byte, pieceText, isPiece, valueText, arePieces, IsValue, Attribute, attributeThen, AttributeBy, attributesThen, textOf, AttributesBy, Absent, Distinct}
+use Rattle.law_wellformed.specs.Grammar.{each, some, isIn, oneOf, nameByte, Quote, double, quoteByte, valueByte, Piece, byte, pieceText, isPiece, valueText, arePieces, IsValue, Attribute, attributeThen, AttributeBy, attributesThen, bodyText, AttributesBy, Absent, Distinct}
 use Rattle.scope_table.specs.Lists.{allBelow, allZero}
 use Rattle.scope_table.specs.Table.{LIMIT, builtIn, levelBefore, isRecord, opensBuiltIn, isChain, isRising, isWithin, isClear, isTable, validOf, freshOf}
 use Rattle.scope_table.specs.Table as Table
@@ -114,7 +114,7 @@ chain-fine = (
 )
 
 pub chain-not-refused : NoneRefused LIMIT chain
-unfolding NoneRefused pushedOf textOf attributesThen attributeThen quoteByte firstOf firstTo firstFrom isSpace notSpace endsKey isByte part sameBytes bytesFrom bytes keyGood keyBad countGood tableGood nameAt sameKey oldestOf earlierOf checkedBy checkedOf writtenBy countBy isAt isQuote skipTo skipOf recoverOf keyEq keyTo keyFrom keyAt quoted closedOf quotedTo quotedOf unquotedTo otherOf valueIn valueFrom valueAt checkOf keptBy placeAt bareBy bareTo bareOf valuedBy valuedTo valuedOf readKey readAt stepFrom stepOf placeGood keysOf stateGood noKeys badReading leaves nextOf opened isEnd consUnless runOf answersOf inside keyPart valuePart xmlPrefix xmlnsPrefix xmlUri xmlnsUri isXml isXmlns isXmlUri isXmlnsUri reservedBind opening isNamed declaresOf declaredPrefix allBelow allZero over builtIn Table.textOf levelBefore isRecord opensBuiltIn isChain isRising isWithin isClear isTable validOf freshOf boundOf refusalOf appendOf namedOf judgeOf settleOf declareOf limitedOf declarationOf declarationThen declarationsOf tagAnswers thenOf declareAll raisedOf pushOf
+unfolding NoneRefused pushedOf bodyText attributesThen attributeThen quoteByte firstOf firstTo firstFrom isSpace notSpace endsKey isByte part sameBytes bytesFrom bytes keyGood keyBad countGood tableGood nameAt sameKey oldestOf earlierOf checkedBy checkedOf writtenBy countBy isAt isQuote skipTo skipOf recoverOf keyEq keyTo keyFrom keyAt quoted closedOf quotedTo quotedOf unquotedTo otherOf valueBy valueFrom valueAt checkOf keptBy placeAt bareBy bareTo bareOf valuedBy valuedTo valuedOf readKey readAt stepFrom stepOf placeGood keysOf stateGood noKeys badReading leaves nextOf opened isEnd consUnless runOf answersOf inside keyPart valuePart xmlPrefix xmlnsPrefix xmlUri xmlnsUri isXml isXmlns isXmlUri isXmlnsUri reservedBind opening isNamed declaresOf declaredPrefix allBelow allZero over builtIn Table.bodyText levelBefore isRecord opensBuiltIn isChain isRising isWithin isClear isTable validOf freshOf boundOf refusalOf appendOf namedOf judgeOf settleOf declareOf limitedOf declarationOf declarationThen declarationsOf tagAnswers thenOf declareAll raisedOf pushOf
 chain-not-refused = (refl, (refl, (refl, tt)))
 
 -- What lookups hand back after the three pushes.

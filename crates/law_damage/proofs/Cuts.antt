@@ -25,7 +25,7 @@ use Rattle.tag_step.proofs.Paths.{next-from}
 use Rattle.tag_step.proofs.Whole.{KeyBy, at-in, StartIn, recover-in}
 use Rattle.tag_step.proofs.Ways.{value-ways, step-ways}
 use Rattle.tag_step.proofs.Progress.{StartPast, step-forward, resume-past}
-use Rattle.law_damage.specs.Damage.{Marked, kept, struck, was, Cut, whole, cuts, Apart}
+use Rattle.law_damage.specs.Damage.{Marked, kept, struck, was, Cut, wholeValue, cuts, Apart}
 
 -- whether an answer is an attribute in quotes
 unfoldable isQuoted : Answer → Bool
@@ -137,8 +137,8 @@ uncons true a rest b bs e = let z : _≡_ {A = ℕ} 0 1 = cc in absurd (omega ar
 uncons false a rest b bs e = (refl, cc, cc)
 
 -- the cut of a closed value
-pub cut-closed : (value : Span) (v e : ℕ) (run : List ℕ) → value ≡ span (v + 1) e → whole value run ≡ record { at = v; to = e + 1; run = run }
-unfolding whole
+pub cut-closed : (value : Span) (v e : ℕ) (run : List ℕ) → value ≡ span (v + 1) e → wholeValue value run ≡ record { at = v; to = e + 1; run = run }
+unfolding wholeValue
 cut-closed value v e run b = let z : v + 1 - 1 ≡ v = omega arith in rw (b, z)
 
 pub apart-before : (len o w : ℕ) (cs : List Cut) → o ≤ w → Apart len w cs → Apart len o cs
@@ -163,10 +163,10 @@ nil-apart len Ended = refl
 -- a damaged step's cut stands before the later ones
 cut-apart : (s : List ℕ) (checks : Bool) (k : Keys) (o : ℕ) → o ≤ length s → (run : List ℕ) (cs : List Cut) (q : ℕ) (key value : Span)
     → quoted q key value ≡ readAt s false checks k o .answer → ApartStart (length s) (nextStart s checks k o) cs
-    → Apart (length s) o (whole value run ∷ cs)
+    → Apart (length s) o (wholeValue value run ∷ cs)
 unfolding Apart closedOf
 cut-apart s checks k o h run cs q key value =
-    read-cut s checks k o h q key value (λ (x : Reading). ApartStart (length s) (recoverOf s (x .place)) cs → Apart (length s) o (whole value run ∷ cs))
+    read-cut s checks k o h q key value (λ (x : Reading). ApartStart (length s) (recoverOf s (x .place)) cs → Apart (length s) o (wholeValue value run ∷ cs))
     (λ key' eq v e cl same d.
     let ord = closed-order cl in
     let l = cl .e-in in

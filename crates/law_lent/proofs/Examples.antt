@@ -19,7 +19,7 @@ use Rattle.scope_table.proofs.Good.{ready}
 use Rattle.scope_table.proofs.Pad.{pad-table}
 use Rattle.scope_table.proofs.Full.{full-is, full-asks, lent-again}
 use Rattle.law_scopes.specs.Calls.{Call, push, pop, callOf, leftBy, setLimit}
-use Rattle.law_scopes.specs.Scopes.{Made, made, scopes, Told, told, none, sizeOf, callIn, standing, answersIn}
+use Rattle.law_scopes.specs.Scopes.{Made, made, scopes, ScopesTold, told, noScopes, sizeOf, callIn, scopesAfter, answersIn}
 use Rattle.law_scopes.specs.Made.{seen}
 use Rattle.law_scopes.specs.Promises.{ScopesFollow, ScopeSums, SizedStays}
 use Rattle.law_scopes.proofs.Valid.{fresh-proper}
@@ -28,7 +28,7 @@ use Rattle.law_scopes.proofs.Sums.{fresh-none, scope-sums}
 use Rattle.law_scopes.proofs.Examples.{history-example}
 use Rattle.law_scopes.proofs.Twenty.{sized-stays}
 use Rattle.law_lent.specs.Run.{nextLent, lentAnswers}
-use Rattle.law_lent.specs.Follows.{Left, RunOn, LentRun, LentFresh, LentReached, LentPushPop, FullNeverLends, Longer, CallsAgain, LentLimit, FullNeverWrong, AsksAgain}
+use Rattle.law_lent.specs.Follows.{LentLeft, RunOn, LentRun, LentFresh, LentReached, LentPushPop, FullNeverLends, Longer, CallsAgain, LentLimit, FullNeverWrong, AsksAgain}
 use Rattle.law_lent.proofs.Held.{call-left, call-more}
 use Rattle.law_lent.proofs.Run.{lent-run, lent-fresh, lent-reached, lent-push-pop, lent-limit}
 use Rattle.law_lent.proofs.Full.{full-never-lends, full-never-wrong}
@@ -42,16 +42,16 @@ abbrev both : List Made
 both = made [] (bytes "u") 1 ∷ made (bytes "p") (bytes "v") 1 ∷ []
 
 -- what it is on the fresh resolver
-opened : callIn opening none ≡ told Done (scopes both 1 LIMIT)
+opened : callIn opening noScopes ≡ told Done (scopes both 1 LIMIT)
 opened = history-example .4
 
 used-after : callOf opening freshOf .resolver .head .used ≡ 76
-unfolding leftBy standing ScopeSums sizeOf bytes bytesFrom
-used-after = scope-sums (opening ∷ []) .text ∙ ap (λ (t : Told). 73 + sizeOf (t .scopes .bound)) opened
+unfolding leftBy scopesAfter ScopeSums sizeOf bytes bytesFrom
+used-after = scope-sums (opening ∷ []) .text ∙ ap (λ (t : ScopesTold). 73 + sizeOf (t .scopes .bound)) opened
 
 count-after : callOf opening freshOf .resolver .head .count ≡ 4
-unfolding leftBy standing ScopeSums
-count-after = scope-sums (opening ∷ []) .records ∙ ap (λ (t : Told). 2 + length (t .scopes .bound)) opened
+unfolding leftBy scopesAfter ScopeSums
+count-after = scope-sums (opening ∷ []) .records ∙ ap (λ (t : ScopesTold). 2 + length (t .scopes .bound)) opened
 
 -- A fresh resolver in so many bytes.
 abbrev rows : List ℕ
@@ -61,7 +61,7 @@ abbrev memory : ℕ → Given
 memory n = freshIn (replicate n 0) rows (headOf 0 0 0 0)
 
 abbrev Fresh : ℕ → Type 0
-Fresh n = Left (replicate n 0) rows (changed Done freshOf) (memory n)
+Fresh n = LentLeft (replicate n 0) rows (changed Done freshOf) (memory n)
 
 fresh-76 : Fresh 76
 unfolding LentFresh freshIn heldOf fitsOf holdsOf freshOf
@@ -91,13 +91,13 @@ module _ (n : ℕ) (f : Fresh n) where
       rw (used-is, count-is, bytes-are, r) e
 
 -- 76 bytes hold it
-held : Left (memory 76 .text) (memory 76 .records) (after 76 fresh-76) (nextLent opening (memory 76))
+held : LentLeft (memory 76 .text) (memory 76 .records) (after 76 fresh-76) (nextLent opening (memory 76))
 unfolding nextLent fitsOf holdsOf
 held = call-left (memory 76 .text) (memory 76 .records) (memory 76 .head) (fresh-76 .kept .ready) opening (holds-is 76 fresh-76 true refl)
 
 answer-after : callOf opening freshOf .answer ≡ Done
 unfolding ScopesFollow seen
-answer-after = ap (λ (t : Told). t .answer) (scopes-follow freshOf fresh-proper opening ∙ ap (callIn opening) fresh-none ∙ opened)
+answer-after = ap (λ (t : ScopesTold). t .answer) (scopes-follow freshOf fresh-proper opening ∙ ap (callIn opening) fresh-none ∙ opened)
 
 pub lent-follows-instance : nextLent opening (memory 76) .answer ≡ Done
 lent-follows-instance = held .answer ∙ ap (λ (x : NamespaceResolver). callOf opening x .answer) (fresh-76 .kept .stands) ∙ answer-after
@@ -122,7 +122,7 @@ lent-push-pop-instance =
     lent-push-pop (memory 76 .text) (memory 76 .records) (memory 76 .head) (fresh-76 .kept .ready) (omega (arith, fresh-level))
     (bytes " xmlns=\"u\" xmlns:p=\"v\"") 0 (done-only (nextLent opening (memory 76) .answer) lent-follows-instance)
 
-pub lent-reached-instance : lentAnswers (opening ∷ []) (memory 76) ≡ answersIn (opening ∷ []) none
+pub lent-reached-instance : lentAnswers (opening ∷ []) (memory 76) ≡ answersIn (opening ∷ []) noScopes
 unfolding LentReached lentAnswers freshIn heldOf fitsOf holdsOf freshOf
 lent-reached-instance = lent-reached (replicate 76 0) rows (headOf 0 0 0 0) refl (opening ∷ []) (done-only (nextLent opening (memory 76) .answer) lent-follows-instance, _) .1
 

@@ -27,7 +27,7 @@ use Rattle.scope_table.proofs.Calls.{changes, lends-more}
 use Rattle.law_scopes.specs.Calls.{Call, callOf}
 use Rattle.law_scopes.specs.Promises.{Proper, ValidStays}
 use Rattle.law_scopes.proofs.Valid.{valid-stays}
-use Rattle.law_lent.specs.Follows.{MemoryFor, Left, LentFollows}
+use Rattle.law_lent.specs.Follows.{MemoryFor, LentLeft, LentFollows}
 
 -- a list that is zeros from n on, cut at n and padded again
 pad-of-take : (m n : ℕ) (ys : List ℕ) → length ys ≡ m → n ≤ m → allZero (drop n ys) ≡ true → padTo m (take n ys) ≡ ys
@@ -81,12 +81,12 @@ module _ (text records : List ℕ) (head : Head) (good : formOf text records hea
     Held t = fitsOf (length text) (length records) (after .resolver .head .used) (after .resolver .head .count) ≡ t
 
     -- the memory holds what the call leaves
-    pub call-left : Held true → Left text records after (lentOf (callOf c) text records head)
+    pub call-left : Held true → LentLeft text records after (lentOf (callOf c) text records head)
     unfolding ValidStays
     call-left e =
         let y = after .resolver in
         let g = changes text records head (ready text records head good .fit) (callOf c) (after .answer) y (take (length text) (y .text)) (take (length records) (y .records)) refl e refl refl in
-        subst (λ (h : Given). Left text records after h) g
+        subst (λ (h : Given). LentLeft text records after h) g
         (record { answer = refl; kept = held-kept (length text) (length records) y (valid-stays (standsFor text records head) stands-proper c) text records (after .answer) refl refl e })
 
     -- or it does not
@@ -94,7 +94,7 @@ module _ (text records : List ℕ) (head : Head) (good : formOf text records hea
     call-more e = sym (lends-more text records head (ready text records head good .fit) (callOf c) (after .answer) (after .resolver) refl e)
 
   -- one of both
-  call-either : (c : Call) (t : Bool) → Held c t → (lentOf (callOf c) text records head ≡ given LendMore text records head) ⊎ Left text records (after c) (lentOf (callOf c) text records head)
+  call-either : (c : Call) (t : Bool) → Held c t → (lentOf (callOf c) text records head ≡ given LendMore text records head) ⊎ LentLeft text records (after c) (lentOf (callOf c) text records head)
   call-either c true e = inr (call-left c e)
   call-either c false e = inl (call-more c e)
 

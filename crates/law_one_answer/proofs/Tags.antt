@@ -24,7 +24,7 @@ use Rattle.tag_step.specs.declared.Step.{Step}
 use Rattle.tag_step.proofs.Numbers.{numbers-apart, step-apart}
 use Rattle.tag_step.specs.Next.{Reading}
 use Rattle.tag_step.specs.Lent.{Taken, Took, Short, taken}
-use Rattle.tag_step.specs.declared.Outcome.{Outcome}
+use Rattle.tag_step.specs.declared.Advance.{Advance}
 use Rattle.tag_step.specs.declared.Stepped.{Stepped}
 use Rattle.tag_step.specs.declared.Stepped.the-variants.{Made, LendMore}
 use Rattle.tag_batch.specs.Batch.{Batched}
@@ -41,7 +41,7 @@ use Rattle.scan.proofs.byte_near as scan·byte-near
 use Rattle.scan.proofs.inside as scan·inside
 use Rattle.scan.proofs.same as scan·same
 use Rattle.scan.proofs.same_start as scan·same-start
-use Rattle.name.proofs.Declares.number as name·Declares·number
+use Rattle.name.proofs.PrefixDeclaration.number as name·PrefixDeclaration·number
 use Rattle.name.proofs.Verdict.number as name·Verdict·number
 use Rattle.name.proofs.colon_at as name·colon-at
 use Rattle.name.proofs.index as name·index
@@ -86,7 +86,7 @@ use Rattle.export_cursor.proofs.place_from as export-cursor·place-from
 use Rattle.export_cursor.proofs.settle as export-cursor·settle
 
 -- the outcome of a step on lent tables, read off what the contract states
-abbrev outcome : Reading → Outcome
+abbrev outcome : Reading → Advance
 outcome x = record { answer = x .answer; place = x .place; count = x .keys .count }
 
 -- the same of a step that lacks a place: which of the two it is, and the tables
@@ -136,8 +136,8 @@ module _ {M : Type 1} (𝓤 : URA M) (H : Heap 𝓤) (A : Atoms 𝓤) (mem : Mem
   pub scan-same-start : Settled 𝓤 scan·same-start.ended (scan·same-start.clauses 𝓤 H A mem run)
   scan-same-start κs a g y z = alone 𝓤 _ y z refl
 
-  pub name-Declares-number : Settled 𝓤 name·Declares·number.ended (name·Declares·number.clauses 𝓤 H A mem run)
-  name-Declares-number κs a g y z = alone 𝓤 _ y z refl
+  pub name-PrefixDeclaration-number : Settled 𝓤 name·PrefixDeclaration·number.ended (name·PrefixDeclaration·number.clauses 𝓤 H A mem run)
+  name-PrefixDeclaration-number κs a g y z = alone 𝓤 _ y z refl
 
   pub name-Verdict-number : Settled 𝓤 name·Verdict·number.ended (name·Verdict·number.clauses 𝓤 H A mem run)
   name-Verdict-number κs a g y z = alone 𝓤 _ y z refl

@@ -6,7 +6,7 @@ use Rattle.scope_table.specs.Records.{recordAt, prefixIn, valueIn}
 use Rattle.scope_table.specs.declared.NamespaceResolver.{NamespaceResolver}
 use Rattle.scope_table.specs.declared.NamespaceBinding.{NamespaceBinding}
 use Rattle.scope_table.specs.declared.Changed.{Changed}
-use Rattle.law_scopes.specs.Scopes.{Made, made, Scopes, scopes, Told, told}
+use Rattle.law_scopes.specs.Scopes.{Made, made, Scopes, scopes, ScopesTold, told}
 
 -- what a record says
 unfoldable pub madeOf : (text : List ℕ) → NamespaceBinding → Made
@@ -23,5 +23,5 @@ madeIn x = listTo (λ i. madeAt x (2 + i)) (x .head .count - 2)
 unfoldable pub scopesOf : NamespaceResolver → Scopes
 scopesOf x = scopes (madeIn x) (x .head .level) (x .head .limit)
 
-unfoldable pub seen : Changed → Told
+unfoldable pub seen : Changed → ScopesTold
 seen c = told (c .answer) (scopesOf (c .resolver))

@@ -12,11 +12,11 @@ use Rattle.tag_step.specs.declared.Answer.{Answer}
 use Rattle.tag_step.specs.Numbers.{numbersOf}
 
 -- how many decimal digits a number has: the fewest that hold it, and at least one; none of 64 bits has more than 20
-unfoldable pub placesOf : ℕ → ℕ
-placesOf n = firstTo (λ k. ltb n (10 ^ k)) 1 20
+unfoldable pub digitCount : ℕ → ℕ
+digitCount n = firstTo (λ k. ltb n (10 ^ k)) 1 20
 
 unfoldable pub decimalOf : ℕ → List ℕ
-decimalOf n = digits 10 (placesOf n) n
+decimalOf n = digits 10 (digitCount n) n
 
 -- numbers, a blank (32) before each
 unfoldable pub spaced : List ℕ → List ℕ

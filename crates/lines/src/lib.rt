@@ -13,7 +13,7 @@ ghost use lib.ListN.{length};
 ghost use Rattle.scan.specs.Lists.{over};
 ghost use Rattle.tag_step.specs.Next.{lentState};
 ghost use Rattle.lines.specs.Lines.{decimalOf, spaced, letterOf, shownFrom, valuesOf, ownOf, lineOf, linesIn};
-ghost use Rattle.lines.specs.Page.{answersIn, pageLeft, pageOf};
+ghost use Rattle.lines.specs.Page.{answersCount, pageLeft, pageOf};
 
 // No line is longer: a letter, five numbers of at most 20 digits with a blank before each, a line feed.
 pub const LONGEST: usize = 107;
@@ -145,7 +145,7 @@ pub fn put_lines(numbers: &[usize], out: &mut [u8]) -> usize
 
 // How many answers a batch wrote.
 pub fn answers(left: Batch) -> usize
-    ensures { λ r. ⌜ r ≡ answersIn left ⌝ }
+    ensures { λ r. ⌜ r ≡ answersCount left ⌝ }
 {
     match left {
         Batch::Read(n, _, _, _) => n,

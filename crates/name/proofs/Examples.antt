@@ -13,8 +13,8 @@ use Rattle.name.specs.Bind.{reservedBind}
 use Rattle.name.specs.Verdict.{isEmpty, isOther, isRefused, verdictNamed, verdictOn, verdictOf}
 use Rattle.name.specs.declared.Colon.{Colon}
 use Rattle.name.specs.declared.Colon.the-variants.{At, Nowhere}
-use Rattle.name.specs.declared.Declares.{Declares}
-use Rattle.name.specs.declared.Declares.the-variants.{Nothing, Default, Named}
+use Rattle.name.specs.declared.PrefixDeclaration.{PrefixDeclaration}
+use Rattle.name.specs.declared.PrefixDeclaration.the-variants.{Nothing, Default, Named}
 use Rattle.name.specs.declared.NamedCheck.{NamedCheck}
 use Rattle.name.specs.declared.NamedCheck.the-variants.{Fine, AddsNothing, InvalidXmlPrefixBind, InvalidXmlnsPrefixBind, InvalidPrefixForXml, InvalidPrefixForXmlns}
 use Rattle.name.specs.declared.Verdict.{Verdict}
@@ -25,13 +25,13 @@ record Split : Type 0 where
   colon : Colon
   prefix : List ℕ
   local : List ℕ
-  declares : Declares
+  declares : PrefixDeclaration
   declared : List ℕ
 
 abbrev splitOf : String → Split
 splitOf name = record { colon = colonOf (bytes name); prefix = prefixOf (bytes name); local = localOf (bytes name); declares = declaresOf (bytes name); declared = declaredPrefix (bytes name) }
 
-abbrev splits : Colon → String → String → Declares → String → Split
+abbrev splits : Colon → String → String → PrefixDeclaration → String → Split
 splits colon prefix local declares declared = record { colon = colon; prefix = bytes prefix; local = bytes local; declares = declares; declared = bytes declared }
 
 pub names-split :

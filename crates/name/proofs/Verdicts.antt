@@ -21,7 +21,7 @@ use Rattle.name.specs.Declares.{declaresOf, declaredPrefix}
 use Rattle.name.specs.Verdict.{isEmpty, isOther, isRefused, verdictNamed, verdictOn, verdictOf, verdictNumber}
 use Rattle.name.specs.declared.NamedCheck.{NamedCheck}
 use Rattle.name.specs.declared.NamedCheck.the-variants.{Fine, AddsNothing, InvalidXmlPrefixBind, InvalidXmlnsPrefixBind, InvalidPrefixForXml, InvalidPrefixForXmlns}
-use Rattle.name.specs.declared.Declares.the-variants.{Named}
+use Rattle.name.specs.declared.PrefixDeclaration.the-variants.{Named}
 use Rattle.name.specs.declared.Verdict.{Verdict}
 use Rattle.name.specs.declared.Verdict.the-variants.{Yes, No, NoDeclaration}
 use Rattle.name.proofs.Declared.{xml-eq, xml-uri-eq}

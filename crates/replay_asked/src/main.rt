@@ -7,9 +7,9 @@
 //
 // The questions are those of `reply_to`. Each is asked twice: of a resolver and an iterator by value, and of those that a
 // form over references left. What is compared are numbers: each call has its own exact contract, and here none is repeated.
-use replay::End;
+use replay::RecordStep;
 use replay::Replayed;
-use replay::Step;
+use replay::RunEnd;
 use scope_lookup::Namespace;
 use scope_nil::HasNil;
 use scope_nil::Nil;
@@ -146,17 +146,17 @@ fn same_reply(x: Reply, recorded: &[u8]) -> bool
 }
 
 // The record at the front.
-fn record_of(carried: bool, rest: &[u8]) -> Step {
+fn record_of(carried: bool, rest: &[u8]) -> RecordStep {
     if rest.len() < 17 {
-        return Step::Cut;
+        return RecordStep::Cut;
     }
     let n = replay::number_at(rest, 5);
     if rest.len() - 17 < n {
-        return Step::Cut;
+        return RecordStep::Cut;
     }
     let m = replay::number_at(rest, 7 + n);
     if rest.len() - 17 - n < m {
-        return Step::Cut;
+        return RecordStep::Cut;
     }
     let to = 7 + n;
     let from = 9 + n;
@@ -171,12 +171,12 @@ fn record_of(carried: bool, rest: &[u8]) -> Step {
         &rest[from..end],
     );
     if same_reply(x, &rest[end..]) {
-        return Step::Agrees(8 + end, 0, 0);
+        return RecordStep::Agrees(8 + end, 0, 0);
     }
-    Step::Differs
+    RecordStep::Differs
 }
 
-fn replayed(at: usize, records: usize, end: End) -> Replayed {
+fn replayed(at: usize, records: usize, end: RunEnd) -> Replayed {
     Replayed {
         at: at,
         records: records,
@@ -195,21 +195,21 @@ fn replay(records: &[u8], carried: bool) -> Replayed {
         let left = records.len() - at;
         let step = record_of(carried, &records[at..]);
         match step {
-            Step::Agrees(size, _, _) => {
+            RecordStep::Agrees(size, _, _) => {
                 if size == 0 {
-                    return replayed(at, count, End::Cut(at));
+                    return replayed(at, count, RunEnd::Cut(at));
                 }
                 if left < size {
-                    return replayed(at, count, End::Cut(at));
+                    return replayed(at, count, RunEnd::Cut(at));
                 }
                 at += size;
                 count += 1;
             }
-            Step::Differs => return replayed(at, count, End::Differs(at)),
-            Step::Cut => return replayed(at, count, End::Cut(at)),
+            RecordStep::Differs => return replayed(at, count, RunEnd::Differs(at)),
+            RecordStep::Cut => return replayed(at, count, RunEnd::Cut(at)),
         }
     }
-    replayed(at, count, End::All)
+    replayed(at, count, RunEnd::All)
 }
 
 // Room for the records. The contract gives the length, which lending the array as a slice needs.
@@ -226,16 +226,16 @@ fn say(words: &[u8], n: usize) {
 }
 
 // The end of a line of counts: all agreed, or where the run stopped.
-fn say_end(end: End) {
+fn say_end(end: RunEnd) {
     match end {
-        End::All => {
+        RunEnd::All => {
             io::write_all(1, b", all as recorded\n");
         }
-        End::Differs(at) => {
+        RunEnd::Differs(at) => {
             say(b" as recorded, and one that is not at byte ", at);
             io::write_all(1, b"\n");
         }
-        End::Cut(at) => {
+        RunEnd::Cut(at) => {
             say(b" as recorded, and no whole record at byte ", at);
             io::write_all(1, b"\n");
         }

@@ -74,7 +74,7 @@ module _ {M : Type 1} (𝓤 : URA M) (H : Heap 𝓤) (A : Atoms 𝓤) (W : Given
       use1 W (‵ (fat fullShare T′.mir l 0 (heldVal h))) (W .laws .raw-at fullShare T′.mir l 0 (heldVal h)) $
       use1 W (‵ (froom T′.mir l 0)) (W .laws .at-room T′.mir l 0 (heldVal h)) $ at-once ! $ keep ! (0 ∷ []) $ done !)
 
-  -- ---- an iterator that carries its tag, which `tag_carried` lends: proofs/Loan there
+  -- ---- an iterator that carries its tag, which `tag_carried` lends
   pub iterator-back : (α : NamedLft) (γ : GName) (z : Attributes) → ent 𝓤 (sep 𝓤 (A .dead σ) (sep 𝓤 (A .lent σ (Body (mem (C.Row α)) l 0 γ)) (A .res γ (C.Row α .coded .code z)))) (H .⇛ (sep 𝓤 (H .at fullShare (C′.mir erased) l 0 (C.heldVal α z)) (sem 𝓤 H A (C.heldOwn α z))))
   iterator-back α γ z =
       qed W (‵ (fdead σ) ∷ ‵ (flent σ (Body (mem (C.Row α)) l 0 γ)) ∷ ‵ (fres γ (C.Row α .coded .code z)) ∷ []) ∵ updating ! $

@@ -4,7 +4,7 @@
 //
 // The borrow checker covers no function that lends a struct, or has a local of one that holds a reference: each one here
 // has a walk of its code under proofs/.
-use name::Declares;
+use name::PrefixDeclaration;
 use scope_nil::HasNil;
 use scope_table::Changed;
 use scope_table::NamespaceResolver;
@@ -51,7 +51,7 @@ pub fn push(mut r: NamespaceResolver, tag: &[u8], from: usize) -> Changed
 
 pub fn add<'a>(
     mut r: NamespaceResolver,
-    declares: Declares,
+    declares: PrefixDeclaration,
     prefix: &'a [u8],
     value: &'a [u8],
 ) -> Changed

@@ -6,11 +6,11 @@
 //
 // An answer's five numbers are those of `tag_batch::numbers`. Each record is read three times: in batches of 512 answers and of
 // one, since the run is the same however it is cut, and by the iterator that carries its tag, one `next` after another. What
-// is counted is `replayOf`, specs/Replay.antt.
+// is counted is `tagsReplayed`, specs/Replay.antt.
 use lines::Mode;
-use replay::End;
+use replay::RecordStep;
 use replay::Replayed;
-use replay::Step;
+use replay::RunEnd;
 use tag_batch::Batch;
 use tag_batch::Five;
 use tag_keys::CAPACITY;
@@ -23,7 +23,7 @@ ghost use Rattle.scan.specs.Bytes.{sameBytes};
 ghost use Rattle.tag_step.specs.Next.{opened};
 ghost use Rattle.tag_batch.specs.Batch.{listed};
 ghost use Rattle.replay.specs.Numbers.{twosOf};
-ghost use Rattle.replay_tags.specs.Replay.{agreesWith, Lent, openedOn, recordOf, replayOf};
+ghost use Rattle.replay_tags.specs.Replay.{answersAgree, ReplayMemory, replayOpened, tagRecordOf, tagsReplayed};
 
 fn wide(b: u8) -> usize
     ensures { λ r. ⌜ r ≡ b ⌝ }
@@ -42,8 +42,8 @@ fn agrees_on<'a>(
     ends: &'a mut [usize],
     out: &mut [usize],
 ) -> bool
-    requires { ⌜ Lent (now starts) (now ends) (now out) answers (now recorded) ⌝ }
-    ensures { λ r. ⌜ r ≡ agreesWith (now (tag .entry)) (openedOn opening (mode .html) (mode .checks) (now (starts .entry)) (now (ends .entry))) answers (now (recorded .entry)) ⌝ }
+    requires { ⌜ ReplayMemory (now starts) (now ends) (now out) answers (now recorded) ⌝ }
+    ensures { λ r. ⌜ r ≡ answersAgree (now (tag .entry)) (replayOpened opening (mode .html) (mode .checks) (now (starts .entry)) (now (ends .entry))) answers (now (recorded .entry)) ⌝ }
 {
     let html = mode.html;
     let checks = mode.checks;
@@ -81,7 +81,7 @@ fn agrees(
     out: &mut [usize],
 ) -> bool
     requires { ⌜ (5 ≤ length (now out)) × (10 * answers ≤ length (now recorded)) ⌝ }
-    ensures { λ r. ⌜ r ≡ agreesWith (now (tag .entry)) (opened opening (mode .html) (mode .checks)) answers (now (recorded .entry)) ⌝ }
+    ensures { λ r. ⌜ r ≡ answersAgree (now (tag .entry)) (opened opening (mode .html) (mode .checks)) answers (now (recorded .entry)) ⌝ }
 {
     let mut starts = [0usize; CAPACITY];
     let mut ends = [0usize; CAPACITY];
@@ -126,7 +126,7 @@ fn agrees_carried(
     recorded: &[u8],
 ) -> bool
     requires { ⌜ 10 * answers ≤ length (now recorded) ⌝ }
-    ensures { λ r. ⌜ r ≡ agreesWith (now (tag .entry)) (opened opening html checks) answers (now (recorded .entry)) ⌝ }
+    ensures { λ r. ⌜ r ≡ answersAgree (now (tag .entry)) (opened opening html checks) answers (now (recorded .entry)) ⌝ }
 {
     let mut state = opened_as(tag, html, checks, opening);
     let mut total = 0;
@@ -161,7 +161,7 @@ fn agrees_by(
     out: &mut [usize],
 ) -> bool
     requires { ⌜ (5 ≤ length (now out)) × (10 * answers ≤ length (now recorded)) ⌝ }
-    ensures { λ r. ⌜ r ≡ agreesWith (now (tag .entry)) (opened opening (mode .html) (mode .checks)) answers (now (recorded .entry)) ⌝ }
+    ensures { λ r. ⌜ r ≡ answersAgree (now (tag .entry)) (opened opening (mode .html) (mode .checks)) answers (now (recorded .entry)) ⌝ }
 {
     if carried {
         return agrees_carried(tag, mode.html, mode.checks, opening, answers, recorded);
@@ -169,22 +169,22 @@ fn agrees_by(
     agrees(tag, mode, opening, answers, recorded, out)
 }
 
-fn record_of(rest: &[u8], carried: bool, out: &mut [usize]) -> Step
+fn record_of(rest: &[u8], carried: bool, out: &mut [usize]) -> RecordStep
     requires { ⌜ 5 ≤ length (now out) ⌝ }
-    ensures { λ r. ⌜ r ≡ recordOf (now (rest .entry)) ⌝ }
+    ensures { λ r. ⌜ r ≡ tagRecordOf (now (rest .entry)) ⌝ }
 {
     if rest.len() < 8 {
-        return Step::Cut;
+        return RecordStep::Cut;
     }
     let n = replay::number_at(rest, 0);
     if rest.len() - 8 < n {
-        return Step::Cut;
+        return RecordStep::Cut;
     }
     let to = 2 + n;
     let tail = &rest[to..];
     let answers = replay::number_at(tail, 4);
     if (tail.len() - 6) / 10 < answers {
-        return Step::Cut;
+        return RecordStep::Cut;
     }
     let mode = Mode {
         html: wide(tail[0]) == 1,
@@ -199,15 +199,15 @@ fn record_of(rest: &[u8], carried: bool, out: &mut [usize]) -> Step
         &tail[6..],
         out,
     ) {
-        return Step::Agrees(8 + n + 10 * answers, 0, 0);
+        return RecordStep::Agrees(8 + n + 10 * answers, 0, 0);
     }
-    Step::Differs
+    RecordStep::Differs
 }
 
 // How many records agree before the first that does not, and where that one is.
 fn replay(records: &[u8], carried: bool, out: &mut [usize]) -> Replayed
     requires { ⌜ 5 ≤ length (now out) ⌝ }
-    ensures { λ r. ⌜ r ≡ replayOf (now (records .entry)) ⌝ }
+    ensures { λ r. ⌜ r ≡ tagsReplayed (now (records .entry)) ⌝ }
 {
     let mut run = replay::begun();
     while run.at < records.len() {
@@ -232,18 +232,18 @@ fn say(words: &[u8], n: usize) {
 }
 
 // The end of a line of counts: all agreed, or where the run stopped. `which` says what a record is.
-fn say_end(end: End, which: &[u8]) {
+fn say_end(end: RunEnd, which: &[u8]) {
     match end {
-        End::All => {
+        RunEnd::All => {
             io::write_all(1, b", all as recorded\n");
         }
-        End::Differs(at) => {
+        RunEnd::Differs(at) => {
             io::write_all(1, b" as recorded, and ");
             io::write_all(1, which);
             say(b" that is not at byte ", at);
             io::write_all(1, b"\n");
         }
-        End::Cut(at) => {
+        RunEnd::Cut(at) => {
             say(b" as recorded, and no whole record at byte ", at);
             io::write_all(1, b"\n");
         }

@@ -7,7 +7,7 @@ use lib.ListN.{getD}
 use Rattle.scan.specs.Bytes.{Marks, sameBytes, bytesFrom, bytes}
 use Rattle.name.specs.Reserved.{xmlPrefix, xmlnsPrefix, xmlUri, xmlnsUri, isXml, isXmlns, isXmlUri, isXmlnsUri}
 use Rattle.name.specs.Bind.{reservedBind, namedNumbers, numberOf, refusedText}
-use Rattle.name.specs.declared.Declares.the-variants.{Named}
+use Rattle.name.specs.declared.PrefixDeclaration.the-variants.{Named}
 use Rattle.scope_table.specs.Lists.{allBelow, allZero}
 use Rattle.scope_table.specs.Table.{LIMIT, builtIn, textOf, levelBefore, isRecord, opensBuiltIn, isChain, isRising, isWithin, isClear, isTable, validOf, headOf, resolverOf}
 use Rattle.scope_table.specs.Answer.{changeNumbers}

@@ -11,8 +11,8 @@ use lib.Seq.{take-all}
 use Rattle.scan.specs.First.{pick}
 use Rattle.scan.specs.Bytes.{part, Marks}
 use Rattle.name.specs.Bind.{reservedBind, namedNumbers, numberOf, refusedText}
-use Rattle.name.specs.declared.Declares.{Declares}
-use Rattle.name.specs.declared.Declares.the-variants.{Nothing, Default, Named}
+use Rattle.name.specs.declared.PrefixDeclaration.{PrefixDeclaration}
+use Rattle.name.specs.declared.PrefixDeclaration.the-variants.{Nothing, Default, Named}
 use Rattle.name.specs.declared.NamedCheck.{NamedCheck}
 use Rattle.name.specs.declared.NamedCheck.the-variants as Check
 use Rattle.scope_table.specs.Table.{validOf}
@@ -57,7 +57,7 @@ module _ (ps vs p v : List ℕ) (at : Places) (here : Marks ps (at .«prefix_sta
   named-holds Check.InvalidPrefixForXml = here
   named-holds Check.InvalidPrefixForXmlns = here
 
-  pub declare-holds : (d : Declares) → HoldsText ps vs (declareOf room d p v at x .answer) (refusedText (reservedBind p v) p v)
+  pub declare-holds : (d : PrefixDeclaration) → HoldsText ps vs (declareOf room d p v at x .answer) (refusedText (reservedBind p v) p v)
   unfolding declareOf judgeOf settleOf
   declare-holds Nothing = tt
   declare-holds Default = append-none ps vs _ room x (take 0 p) v
@@ -69,7 +69,7 @@ unfolding part
 whole-marks t = record { ahead = zero-le; inside = omega arith; between = take-all (length t - 0) t (omega arith) }
 
 -- `add`: the bounds are those of its argument.
-pub add-holds : (d : Declares) (p v : List ℕ) (x : NamespaceResolver) → HoldsText p v (addOf d p v x .answer) (refusedText (reservedBind p v) p v)
+pub add-holds : (d : PrefixDeclaration) (p v : List ℕ) (x : NamespaceResolver) → HoldsText p v (addOf d p v x .answer) (refusedText (reservedBind p v) p v)
 unfolding addOf
 add-holds d p v x = by (validOf x) where
   by : (t : Bool) → HoldsText p v (pick t (declareOf whole d p v (wholly p v) x) (changed BadResolver x) .answer) (refusedText (reservedBind p v) p v)

@@ -3,8 +3,8 @@
 // Each is there twice: on lent memory, where the work is done and nothing is copied (`add_in`, `pop_in`, and `set_level_in` of
 // scope_change), and by value, where the new resolver is handed back. These test the form of the resolver first (refusal 20);
 // `declare_in`, reading the level, and reading or setting the limit do not.
-use name::Declares;
 use name::NamedCheck;
+use name::PrefixDeclaration;
 use scope_change::Room;
 use scope_table::Changed;
 use scope_table::Form;
@@ -38,13 +38,18 @@ pub enum Judged {
 
 // Refusals 12 to 15, and the two declarations that add nothing: the arms of `NamespaceResolver::add`, src/name.rs, before
 // the limit is looked at.
-pub fn judge<'a>(declares: Declares, prefix: &'a [u8], value: &'a [u8], at: Places) -> Judged
+pub fn judge<'a>(
+    declares: PrefixDeclaration,
+    prefix: &'a [u8],
+    value: &'a [u8],
+    at: Places,
+) -> Judged
     ensures { λ r. ⌜ r ≡ judgeOf declares (now (prefix .entry)) (now (value .entry)) at ⌝ }
 {
     match declares {
-        Declares::Nothing => return Judged::Keep(NamespaceResult::Done),
-        Declares::Default => return Judged::Bind(0),
-        Declares::Named => {}
+        PrefixDeclaration::Nothing => return Judged::Keep(NamespaceResult::Done),
+        PrefixDeclaration::Default => return Judged::Bind(0),
+        PrefixDeclaration::Named => {}
     }
     let check = name::check_named(prefix, value);
     match check {
@@ -71,7 +76,7 @@ pub fn declare_in<'a>(
     records: &mut [usize],
     head: Head,
     room: Room,
-    declares: Declares,
+    declares: PrefixDeclaration,
     prefix: &'a [u8],
     value: &'a [u8],
     at: Places,
@@ -98,7 +103,7 @@ pub fn add_in<'a>(
     text: &mut [u8],
     records: &mut [usize],
     head: Head,
-    declares: Declares,
+    declares: PrefixDeclaration,
     prefix: &'a [u8],
     value: &'a [u8],
 ) -> Outcome
@@ -160,7 +165,7 @@ pub fn pop_in(text: &mut [u8], records: &mut [usize], head: Head) -> Outcome
 // `NamespaceResolver::add`, src/name.rs.
 pub fn add<'a>(
     r: NamespaceResolver,
-    declares: Declares,
+    declares: PrefixDeclaration,
     prefix: &'a [u8],
     value: &'a [u8],
 ) -> Changed

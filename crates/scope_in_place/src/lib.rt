@@ -4,7 +4,7 @@
 // Each is thin: the resolver behind the reference goes to the call by value, the resolver that comes back is put in its
 // place, and the answer is handed on. So every rule stands once, with the calls by value, and a refusal leaves here what
 // it leaves there.
-use name::Declares;
+use name::PrefixDeclaration;
 use scope_table::NamespaceResolver;
 use scope_table::NamespaceResult;
 ghost use mathlib.Core.Path.{_≡_};
@@ -43,7 +43,7 @@ pub fn push(r: &mut NamespaceResolver, tag: &[u8], from: usize) -> NamespaceResu
 // `NamespaceResolver::add`, src/name.rs.
 pub fn add<'a>(
     r: &mut NamespaceResolver,
-    declares: Declares,
+    declares: PrefixDeclaration,
     prefix: &'a [u8],
     value: &'a [u8],
 ) -> NamespaceResult

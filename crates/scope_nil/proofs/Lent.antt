@@ -46,7 +46,7 @@ use Rattle.scope_lookup.specs.declared.Resolved.{Resolved}
 use Rattle.scope_lookup.specs.declared.Resolved.the-variants.{Bound, Unbound, Unknown}
 use Rattle.scope_table.proofs.Last.{last-within}
 use Rattle.scope_lookup.proofs.Padded.{pad-among, ready-inside}
-use Rattle.scope_nil.specs.Nil.{said, standsAt, leftBy, unmovedBy, isYes, instanceUri, isNil, saysNil, searchOf, searched, hasNilOf, heldNil, wholeSearch, nilOnKeys, keysFit, hasNilIn, Searchable, Resting}
+use Rattle.scope_nil.specs.Nil.{said, standsAt, nilLeftBy, unmovedBy, isYes, instanceUri, isNil, saysNil, searchOf, searched, hasNilOf, heldNil, wholeSearch, nilOnKeys, keysFit, hasNilIn, Searchable, Resting}
 use Rattle.scope_nil.specs.declared.HasNil.{HasNil}
 use Rattle.scope_nil.specs.declared.Standing.{Standing}
 use Rattle.scope_nil.specs.declared.Left.{Left}
@@ -253,8 +253,8 @@ module _ (x : NamespaceResolver) (s : List ℕ) (at : Standing) (S E : List ℕ)
     copy-searchable = subst (λ (st : IterState). Searchable s st) (sym whole-copy) whole-searchable
 
     -- its search, and what that leaves of the copy
-    module _ (r : Left) (starts ends : List ℕ) (e : leftBy at r starts ends ≡ searched x s (standsAt at P Q)) where
-      found : leftBy at r starts ends ≡ searched x s (wholeOf (standsAt at S E))
+    module _ (r : Left) (starts ends : List ℕ) (e : nilLeftBy at r starts ends ≡ searched x s (standsAt at P Q)) where
+      found : nilLeftBy at r starts ends ≡ searched x s (wholeOf (standsAt at S E))
       found = e ∙ ap (searched x s) whole-copy
 
       pub left-sized : Sized (lentState (r .place) (at .html) (at .checks) starts ends (r .count))
@@ -263,11 +263,11 @@ module _ (x : NamespaceResolver) (s : List ℕ) (at : Standing) (S E : List ℕ)
           subst (λ (h : HasNil). Sized (h .state)) (sym found)
           (search-keeps (suc (suc (length s))) x s (wholeOf (standsAt at S E)) (record { starts = whole-searchable .starts; ends = whole-searchable .ends }) (whole-searchable .good) .0)
 
-      pub short-more : holds S E (r .count) ≡ false → leftBy at (unmovedBy Nil.LendMore at) S E ≡ wholeSearch x s (standsAt at S E)
+      pub short-more : holds S E (r .count) ≡ false → nilLeftBy at (unmovedBy Nil.LendMore at) S E ≡ wholeSearch x s (standsAt at S E)
       unfolding wholeSearch heldNil
       short-more h = rw (← found, h)
 
-      pub short-held : holds S E (r .count) ≡ true → (S' E' : List ℕ) → S' ≡ over S 0 (take (length S) starts) → E' ≡ over E 0 (take (length E) ends) → leftBy at r S' E' ≡ wholeSearch x s (standsAt at S E)
+      pub short-held : holds S E (r .count) ≡ true → (S' E' : List ℕ) → S' ≡ over S 0 (take (length S) starts) → E' ≡ over E 0 (take (length E) ends) → nilLeftBy at r S' E' ≡ wholeSearch x s (standsAt at S E)
       unfolding wholeSearch heldNil
       short-held h S' E' u v =
           let a : S' ≡ take (length S) starts = copied-back S starts S' (omega (arith, left-sized .starts, y .starts)) u in

@@ -41,7 +41,7 @@ use Rattle.scope_nil.specs.declared.HasNil.{HasNil}
 use Rattle.scope_nil.specs.declared.Standing.{Standing}
 use Rattle.scope_nil.specs.declared.Left.{Left}
 use Rattle.scope_nil.specs.declared.Nil.the-variants as Nil
-use Rattle.scope_nil.specs.Nil.{said, leftBy, isYes, instanceUri, isNil, saysNil, searchOf, searched, hasNilOf}
+use Rattle.scope_nil.specs.Nil.{said, nilLeftBy, isYes, instanceUri, isNil, saysNil, searchOf, searched, hasNilOf}
 
 -- One attribute.
 
@@ -180,7 +180,7 @@ left-by-7 s place html checks starts ends starts' ends' count z g a b =
     rw (a, b, z .starts, z .ends) (ap (λ (y : Step). y .state) (next-bad s (lentState place html checks starts ends count) g))
 
 -- What the contract of `has_nil_in` leaves: one answer, and one content of both tables.
-pub left-one : (h : HasNil) (at : Standing) (o p : Left) (starts ends starts' ends' : List ℕ) → leftBy at o starts ends ≡ h → leftBy at p starts' ends' ≡ h → (o ≡ p) × (starts ≡ starts') × (ends ≡ ends')
+pub left-one : (h : HasNil) (at : Standing) (o p : Left) (starts ends starts' ends' : List ℕ) → nilLeftBy at o starts ends ≡ h → nilLeftBy at p starts' ends' ≡ h → (o ≡ p) × (starts ≡ starts') × (ends ≡ ends')
 left-one h at o p starts ends starts' ends' a b =
-    let e : leftBy at o starts ends ≡ leftBy at p starts' ends' = a ∙ sym b in
+    let e : nilLeftBy at o starts ends ≡ nilLeftBy at p starts' ends' = a ∙ sym b in
     (ap (λ (r : HasNil). record { answer = r .answer; place = r .state .place; count = r .state .count }) e, ap (λ (r : HasNil). r .state .starts) e, ap (λ (r : HasNil). r .state .ends) e)

@@ -52,8 +52,8 @@ numberedNil h = (nilNumber (h .answer), h .state)
 abbrev pub standsAt : Standing → (starts ends : List ℕ) → IterState
 standsAt at starts ends = lentState (at .place) (at .html) (at .checks) starts ends (at .count)
 
-abbrev pub leftBy : Standing → Left → (starts ends : List ℕ) → HasNil
-leftBy at r starts ends = said (r .answer) (lentState (r .place) (at .html) (at .checks) starts ends (r .count))
+abbrev pub nilLeftBy : Standing → Left → (starts ends : List ℕ) → HasNil
+nilLeftBy at r starts ends = said (r .answer) (lentState (r .place) (at .html) (at .checks) starts ends (r .count))
 
 -- an answer that leaves it where it stands
 abbrev pub unmovedBy : Nil → Standing → Left

@@ -20,7 +20,7 @@ ghost use lib.ListN.{length, take};
 ghost use Rattle.scan.specs.Lists.{over};
 ghost use Rattle.scope_table.specs.Table.{resolverOf};
 ghost use Rattle.scope_lookup.specs.Inside.{Inside};
-ghost use Rattle.scope_nil.specs.Nil.{nilNumber, numberedNil, isNil, searched, wholeSearch, hasNilOf, hasNilIn, standsAt, leftBy, unmovedBy, Searchable, Resting};
+ghost use Rattle.scope_nil.specs.Nil.{nilNumber, numberedNil, isNil, searched, wholeSearch, hasNilOf, hasNilIn, standsAt, nilLeftBy, unmovedBy, Searchable, Resting};
 
 // Whether a tag has a `nil` that is true: the crate's bool, and the refusals of what it is asked with.
 pub enum Nil {
@@ -112,7 +112,7 @@ fn search<'k, 't>(
     head: Head,
 ) -> Left
     requires { ⌜ Searchable (now tag) (standsAt at (now starts) (now ends)) × Inside (now records) (head .count) (length (now text)) ⌝ }
-    ensures { λ r. ⌜ leftBy at r (now (starts .exit)) (now (ends .exit))
+    ensures { λ r. ⌜ nilLeftBy at r (now (starts .exit)) (now (ends .exit))
         ≡ searched (resolverOf (now (text .entry)) (now (records .entry)) head) (now (tag .entry)) (standsAt at (now (starts .entry)) (now (ends .entry))) ⌝ }
 {
     let html = at.html;
@@ -175,7 +175,7 @@ fn search_short<'k, 't>(
     head: Head,
 ) -> Left
     requires { ⌜ Resting (now tag) (standsAt at (now starts) (now ends)) × Inside (now records) (head .count) (length (now text)) ⌝ }
-    ensures { λ r. ⌜ leftBy at r (now (starts .exit)) (now (ends .exit))
+    ensures { λ r. ⌜ nilLeftBy at r (now (starts .exit)) (now (ends .exit))
         ≡ wholeSearch (resolverOf (now (text .entry)) (now (records .entry)) head) (now (tag .entry)) (standsAt at (now (starts .entry)) (now (ends .entry))) ⌝ }
 {
     let n = starts.len();
@@ -216,7 +216,7 @@ pub fn has_nil_in<'k, 't>(
     records: &'t [usize],
     head: Head,
 ) -> Left
-    ensures { λ r. ⌜ leftBy at r (now (starts .exit)) (now (ends .exit))
+    ensures { λ r. ⌜ nilLeftBy at r (now (starts .exit)) (now (ends .exit))
         ≡ hasNilIn (now (tag .entry)) (standsAt at (now (starts .entry)) (now (ends .entry))) (now (text .entry)) (now (records .entry)) head ⌝ }
 {
     if CAPACITY < starts.len() {

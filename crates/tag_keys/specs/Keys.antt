@@ -51,7 +51,7 @@ pub record EndsIn (ends : List ℕ) (count len : ℕ) : Type 0 where
 
 -- While checks are on each list has a place for as many keys as may ever be recorded. Nothing is asked of them while
 -- checks are off.
-pub record Room (checks : Bool) (starts ends : List ℕ) : Type 0 where
+pub record KeyRoom (checks : Bool) (starts ends : List ℕ) : Type 0 where
   pub room : checks ≡ true → (capacity ≤ length starts) × (capacity ≤ length ends)
 
 -- While checks are on each list has the place of the next key.

@@ -8,18 +8,18 @@ use native.Mathlib.Omega.{arith}
 use lib.ListN.{length, replicate, length-replicate}
 use Rattle.scan.specs.First.{pick}
 use Rattle.scan.proofs.Bytes.{and-on}
-use Rattle.tag_keys.specs.Keys.{capacity, Room}
+use Rattle.tag_keys.specs.Keys.{capacity, KeyRoom}
 use Rattle.tag_keys.proofs.Laws.{in-table, keys-none}
 use Rattle.tag_step.specs.declared.Place.{Place}
 use Rattle.tag_step.specs.declared.Place.the-variants.{Done}
 use Rattle.tag_step.specs.declared.Start.{Start}
 use Rattle.tag_step.specs.declared.Start.the-variants.{From, Ended}
-use Rattle.tag_step.specs.declared.Outcome.{Outcome}
+use Rattle.tag_step.specs.declared.Advance.{Advance}
 use Rattle.tag_step.specs.declared.Stepped.{Stepped}
 use Rattle.tag_step.specs.declared.Stepped.the-variants.{Made, LendMore}
 use Rattle.tag_step.specs.declared.IterState.{IterState}
 use Rattle.tag_step.specs.Read.{recoverOf}
-use Rattle.tag_step.specs.Next.{Keys, Reading, Stands, lent, made, stepFrom, stepOf, placeGood, goodOf, keysOf, lentState, stateGood, noKeys, badReading, leaves, nextOf, opened, withChecks}
+use Rattle.tag_step.specs.Next.{Keys, Reading, Stands, keysLent, advanced, stepFrom, stepOf, placeGood, goodOf, keysOf, lentState, stateGood, noKeys, badReading, leaves, nextOf, opened, withChecks}
 use Rattle.tag_step.specs.Lent.{taken, stepIn}
 use Rattle.tag_step.proofs.Whole.{starts-in, good-stands, next-steps}
 use Rattle.tag_step.proofs.Taken.{Held, step-keeps-held, step-held, room-made, room-never}
@@ -39,14 +39,14 @@ pub record Sized (st : IterState) : Type 0 where
   pub ends : length (st .ends) ≡ capacity
 
 -- that is room for every key
-sized-room : (st : IterState) → Sized st → Room (st .«check_duplicates») (st .starts) (st .ends)
+sized-room : (st : IterState) → Sized st → KeyRoom (st .«check_duplicates») (st .starts) (st .ends)
 sized-room st z = record { room = λ _. (omega (arith, z .starts), omega (arith, z .ends)) }
 
 -- So a step of a good state is taken, and no place is lacking.
 module _ (s : List ℕ) (st : IterState) (sized : Sized st) (good : stateGood s st ≡ true) where
-  pub sized-stands : Stands s (lent (st .starts) (st .ends) (st .count)) (st .place)
+  pub sized-stands : Stands s (keysLent (st .starts) (st .ends) (st .count)) (st .place)
   unfolding stateGood
-  sized-stands = good-stands s (lent (st .starts) (st .ends) (st .count)) (st .place) good
+  sized-stands = good-stands s (keysLent (st .starts) (st .ends) (st .count)) (st .place) good
 
   abbrev left : Reading
   left = stepOf s (st .html) (st .«check_duplicates») (keysOf st) (st .place)
@@ -62,11 +62,11 @@ module _ (s : List ℕ) (st : IterState) (sized : Sized st) (good : stateGood s 
       record { inside = kept .inside; stands = step-stands s (st .html) (st .«check_duplicates») (keysOf st) (st .place) (sized-stands .stands) }
 
   -- what `step_in` does on such tables
-  module _ (r : Stepped) (starts ends : List ℕ) (e : taken r starts ends (st .count) ≡ stepIn s (st .html) (st .«check_duplicates») (lent (st .starts) (st .ends) (st .count)) (st .place)) where
-    pub sized-next : (o : Outcome) → r ≡ Made o → record { answer = o .answer; state = lentState (o .place) (st .html) (st .«check_duplicates») starts ends (o .count) } ≡ nextOf s st
+  module _ (r : Stepped) (starts ends : List ℕ) (e : taken r starts ends (st .count) ≡ stepIn s (st .html) (st .«check_duplicates») (keysLent (st .starts) (st .ends) (st .count)) (st .place)) where
+    pub sized-next : (o : Advance) → r ≡ Made o → record { answer = o .answer; state = lentState (o .place) (st .html) (st .«check_duplicates») starts ends (o .count) } ≡ nextOf s st
     unfolding leaves keysOf
     sized-next o m =
-        next-steps s st good (made o starts ends)
+        next-steps s st good (advanced o starts ends)
         (room-made s (st .«check_duplicates») (keysOf st) (sized-stands .inside) (sized-room st sized) (st .html) (st .place) r o starts ends e m)
 
     pub sized-never : r ≡ LendMore → ⊥

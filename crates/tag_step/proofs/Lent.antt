@@ -29,11 +29,11 @@ use Rattle.tag_step.specs.declared.Answer.{Answer}
 use Rattle.tag_step.specs.declared.Answer.the-variants.{End, ExpectedEq, BadState}
 use Rattle.tag_step.specs.declared.IterState.{IterState}
 use Rattle.tag_step.specs.declared.Step.{Step}
-use Rattle.tag_step.specs.declared.Outcome.{Outcome}
+use Rattle.tag_step.specs.declared.Advance.{Advance}
 use Rattle.tag_step.specs.declared.Stepped.{Stepped}
 use Rattle.tag_step.specs.declared.Stepped.the-variants.{Made, LendMore}
 use Rattle.tag_step.specs.Read.{found, recoverOf, keyAt}
-use Rattle.tag_step.specs.Next.{Keys, Reading, reading, lent, checkOf, keptBy, bareBy, bareTo, bareOf, valuedBy, valuedTo, valuedOf, readKey, readAt, stepFrom, stepOf, placeAt, placeGood, made, keysOf, lentState, stateGood, noKeys, badReading, leaves, nextOf}
+use Rattle.tag_step.specs.Next.{Keys, Reading, reading, keysLent, checkOf, keptBy, bareBy, bareTo, bareOf, valuedBy, valuedTo, valuedOf, readKey, readAt, stepFrom, stepOf, placeAt, placeGood, advanced, keysOf, lentState, stateGood, noKeys, badReading, leaves, nextOf}
 use Rattle.tag_step.specs.Lent.{wholeOf, wholeNext, needsMore, steppedOf, Taken, Took, Short, taken, takenOn}
 use Rattle.tag_step.proofs.Good.{Sized, step-stands, next-stays-good, next-sized}
 use Rattle.tag_step.proofs.Taken.{Held, step-keeps-held}
@@ -85,13 +85,13 @@ bad-padded len starts ends count = ap (λ (p : ℕ → Bool). firstTo p 0 count)
 
 -- what is lent of other tables
 abbrev front : Keys → Keys → Keys
-front keys other = lent (take (length (keys .starts)) (other .starts)) (take (length (keys .ends)) (other .ends)) (other .count)
+front keys other = keysLent (take (length (keys .starts)) (other .starts)) (take (length (keys .ends)) (other .ends)) (other .count)
 
 abbrev fronted : Keys → Reading → Reading
 fronted keys x = reading (found (x .answer) (x .place)) (front keys (x .keys))
 
 abbrev padded : Keys → Keys
-padded keys = lent (padTo capacity (keys .starts)) (padTo capacity (keys .ends)) (keys .count)
+padded keys = keysLent (padTo capacity (keys .starts)) (padTo capacity (keys .ends)) (keys .count)
 
 module _ (s : List ℕ) (html checks : Bool) (keys : Keys) where
   front-all : keys ≡ front keys (padded keys)
@@ -194,22 +194,22 @@ module _ (s : List ℕ) (place : Place) (html checks : Bool) (starts ends : List
   stood = lentState place html checks starts ends count
 
   abbrev next : Reading
-  next = stepOf s html checks (lent starts ends count) place
+  next = stepOf s html checks (keysLent starts ends count) place
 
-  module _ (ls : length starts ≤ capacity) (le : length ends ≤ capacity) (good : stateGood s stood ≡ true) (r : Stepped) (starts' ends' : List ℕ) (e : taken r starts' ends' count ≡ takenOn (lent starts ends count) next) where
-    by-holds : (t : Bool) → holds starts ends (next .keys .count) ≡ t → taken r starts' ends' count ≡ pick t (Took next) (Short (lent starts ends count))
+  module _ (ls : length starts ≤ capacity) (le : length ends ≤ capacity) (good : stateGood s stood ≡ true) (r : Stepped) (starts' ends' : List ℕ) (e : taken r starts' ends' count ≡ takenOn (keysLent starts ends count) next) where
+    by-holds : (t : Bool) → holds starts ends (next .keys .count) ≡ t → taken r starts' ends' count ≡ pick t (Took next) (Short (keysLent starts ends count))
     unfolding takenOn
     by-holds t h = e ∙ rw h
 
-    is-made : (o : Outcome) → r ≡ Made o → (holds starts ends (next .keys .count) ≡ true) × (made o starts' ends' ≡ next)
+    is-made : (o : Advance) → r ≡ Made o → (holds starts ends (next .keys .count) ≡ true) × (advanced o starts' ends' ≡ next)
     is-made o m = by (holds starts ends (next .keys .count)) refl where
-      by : (t : Bool) → holds starts ends (next .keys .count) ≡ t → (t ≡ true) × (made o starts' ends' ≡ next)
+      by : (t : Bool) → holds starts ends (next .keys .count) ≡ t → (t ≡ true) × (advanced o starts' ends' ≡ next)
       by true h =
-          let w : taken r starts' ends' count ≡ Took (made o starts' ends') = ap (λ (x : Stepped). taken x starts' ends' count) m in
+          let w : taken r starts' ends' count ≡ Took (advanced o starts' ends') = ap (λ (x : Stepped). taken x starts' ends' count) m in
           let z = by-holds true h in
           (refl, cc)
       by false h =
-          let w : taken r starts' ends' count ≡ Took (made o starts' ends') = ap (λ (x : Stepped). taken x starts' ends' count) m in
+          let w : taken r starts' ends' count ≡ Took (advanced o starts' ends') = ap (λ (x : Stepped). taken x starts' ends' count) m in
           let z = by-holds false h in
           let n : _≡_ {A = ℕ} 0 1 = cc in
           absurd (omega arith)
@@ -218,18 +218,18 @@ module _ (s : List ℕ) (place : Place) (html checks : Bool) (starts ends : List
     is-short m = by (holds starts ends (next .keys .count)) refl where
       by : (t : Bool) → holds starts ends (next .keys .count) ≡ t → (t ≡ false) × (starts' ≡ starts) × (ends' ≡ ends)
       by true h =
-          let w : taken r starts' ends' count ≡ Short (lent starts' ends' count) = ap (λ (x : Stepped). taken x starts' ends' count) m in
+          let w : taken r starts' ends' count ≡ Short (keysLent starts' ends' count) = ap (λ (x : Stepped). taken x starts' ends' count) m in
           let z = by-holds true h in
           let n : _≡_ {A = ℕ} 0 1 = cc in
           absurd (omega arith)
       by false h =
-          let w : taken r starts' ends' count ≡ Short (lent starts' ends' count) = ap (λ (x : Stepped). taken x starts' ends' count) m in
+          let w : taken r starts' ends' count ≡ Short (keysLent starts' ends' count) = ap (λ (x : Stepped). taken x starts' ends' count) m in
           let z = by-holds false h in
-          let q : lent starts' ends' count ≡ lent starts ends count = cc in
+          let q : keysLent starts' ends' count ≡ keysLent starts ends count = cc in
           (refl, ap (λ (k : Keys). k .starts) q, ap (λ (k : Keys). k .ends) q)
 
     -- it was taken: the answer, what is left, and that is good again
-    module _ (o : Outcome) (m : r ≡ Made o) where
+    module _ (o : Advance) (m : r ≡ Made o) where
       pub made-held : needsMore s stood ≡ false
       unfolding keysOf
       made-held = good-needs s stood ls le good next refl ∙ ap not (is-made o m .0)
@@ -252,14 +252,14 @@ module _ (s : List ℕ) (place : Place) (html checks : Bool) (starts ends : List
       unfolding stateGood
       placed = both (tableGood (length s) starts ends count) (placeGood s place) good .1
 
-      kept : Held s (lent starts ends count) (next .keys)
-      kept = step-keeps-held s checks (lent starts ends count) inside html place (is-made o m .0)
+      kept : Held s (keysLent starts ends count) (next .keys)
+      kept = step-keeps-held s checks (keysLent starts ends count) inside html place (is-made o m .0)
 
       pub made-good : stateGood s (lentState (o .place) html checks starts' ends' (o .count)) ≡ true
       unfolding stateGood
       made-good =
           ap (λ (x : Reading). tableGood (length s) (x .keys .starts) (x .keys .ends) (x .keys .count) && placeGood s (x .place)) (is-made o m .1)
-          ∙ rw (in-table (length s) (next .keys .starts) (next .keys .ends) (next .keys .count) (kept .inside), step-stands s html checks (lent starts ends count) place placed)
+          ∙ rw (in-table (length s) (next .keys .starts) (next .keys .ends) (next .keys .count) (kept .inside), step-stands s html checks (keysLent starts ends count) place placed)
 
       pub made-starts : length starts' ≡ length starts
       made-starts = ap (λ (x : Reading). length (x .keys .starts)) (is-made o m .1) ∙ kept .starts

@@ -6,7 +6,7 @@ use mathlib.Core.Bool.{Bool, true, false, false≢true}
 use mathlib.Core.List.{List}
 use native.Mathlib.Numerals.{add-one}
 use lib.ListN.{length}
-use Rattle.tag_keys.specs.Keys.{KeysIn, Room, checkedOf, writtenBy, countBy}
+use Rattle.tag_keys.specs.Keys.{KeysIn, KeyRoom, checkedOf, writtenBy, countBy}
 use Rattle.tag_keys.proofs.Laws.{in-table, keys-none}
 use Rattle.tag_step.specs.declared.Span.{Span}
 use Rattle.tag_step.specs.declared.Place.{Place}
@@ -17,12 +17,12 @@ use Rattle.tag_step.specs.declared.KeyRead.{KeyRead}
 use Rattle.tag_step.specs.declared.KeyRead.the-variants.{NoKey, Bare, Valued}
 use Rattle.tag_step.specs.declared.Answer.{Answer}
 use Rattle.tag_step.specs.declared.Found.{Found}
-use Rattle.tag_step.specs.declared.Outcome.{Outcome}
+use Rattle.tag_step.specs.declared.Advance.{Advance}
 use Rattle.tag_step.specs.declared.Stepped.{Stepped}
 use Rattle.tag_step.specs.declared.Stepped.the-variants.{Made, LendMore}
 use Rattle.tag_step.specs.declared.Step.{Step}
 use Rattle.tag_step.specs.Read.{found, recoverOf, keyAt}
-use Rattle.tag_step.specs.Next.{Keys, Reading, Stands, reading, lent, made, checkOf, keptBy, bareBy, bareTo, bareOf, valuedBy, valuedTo, valuedOf, readKey, readAt, stepFrom, stepOf, placeGood, keysOf, lentState, stateGood, noKeys, leaves, nextOf, standing, uncheckedOf, opened}
+use Rattle.tag_step.specs.Next.{Keys, Reading, Stands, reading, keysLent, advanced, checkOf, keptBy, bareBy, bareTo, bareOf, valuedBy, valuedTo, valuedOf, readKey, readAt, stepFrom, stepOf, placeGood, keysOf, lentState, stateGood, noKeys, leaves, nextOf, standing, uncheckedOf, opened}
 use Rattle.tag_step.specs.Lent.{taken, stepIn}
 use Rattle.tag_step.specs.Run.{isEnd, consUnless, runLent, runFrom, answersFrom, answersOf}
 use Rattle.tag_step.proofs.Whole.{next-steps, recover-in}
@@ -90,20 +90,20 @@ module _ (s : List ℕ) (html : Bool) (place : Place) (stands : placeGood s plac
     none : KeysIn starts ends 0 (length s)
     none = keys-none starts ends (length s)
 
-    no-room : Room false starts ends
+    no-room : KeyRoom false starts ends
     no-room = record { room = λ on. absurd (false≢true on) }
 
-    pub unchecked-asks : Stands s (lent starts ends 0) place
+    pub unchecked-asks : Stands s (keysLent starts ends 0) place
     unchecked-asks = record { inside = none; stands = stands }
 
-    module _ (r : Stepped) (starts' ends' : List ℕ) (e : taken r starts' ends' 0 ≡ stepIn s html false (lent starts ends 0) place) where
-      pub unchecked-made : (o : Outcome) → r ≡ Made o → found (o .answer) (o .place) ≡ uncheckedOf s html place
+    module _ (r : Stepped) (starts' ends' : List ℕ) (e : taken r starts' ends' 0 ≡ stepIn s html false (keysLent starts ends 0) place) where
+      pub unchecked-made : (o : Advance) → r ≡ Made o → found (o .answer) (o .place) ≡ uncheckedOf s html place
       unchecked-made o m =
-          unchecked-steps (lent starts ends 0) (made o starts' ends')
-          (room-made s false (lent starts ends 0) none no-room html place r o starts' ends' e m)
+          unchecked-steps (keysLent starts ends 0) (advanced o starts' ends')
+          (room-made s false (keysLent starts ends 0) none no-room html place r o starts' ends' e m)
 
       pub unchecked-never : r ≡ LendMore → ⊥
-      unchecked-never m = room-never s false (lent starts ends 0) none no-room html place r starts' ends' e m
+      unchecked-never m = room-never s false (keysLent starts ends 0) none no-room html place r starts' ends' e m
 
   -- the place that is left is good again
   pub unchecked-stands : placeGood s (uncheckedOf s html place .place) ≡ true

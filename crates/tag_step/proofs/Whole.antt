@@ -26,12 +26,12 @@ use Rattle.tag_step.specs.declared.KeyRead.the-variants.{NoKey, Bare, Va
 use Rattle.tag_step.specs.declared.Answer.{Answer}
 use Rattle.tag_step.specs.declared.Answer.the-variants.{End, Empty, ExpectedEq, Duplicated, KeyTableFull}
 use Rattle.tag_step.specs.declared.Found.{Found}
-use Rattle.tag_step.specs.declared.Outcome.{Outcome}
+use Rattle.tag_step.specs.declared.Advance.{Advance}
 use Rattle.tag_step.specs.declared.IterState.{IterState}
 use Rattle.tag_step.specs.Read.{found, isAt, skipTo, skipOf, recoverOf, keyEq, keyTo, keyFrom, keyAt, valueAt}
-use Rattle.tag_step.specs.Next.{Keys, Reading, Stands, reading, lent, made, checkOf, keptBy, placeAt, bareBy, bareTo, bareOf, valuedBy, valuedTo, valuedOf, readKey, readAt, stepFrom, stepOf, placeGood, goodOf, keysOf, lentState, stateGood, badReading, leaves, nextOf}
+use Rattle.tag_step.specs.Next.{Keys, Reading, Stands, reading, keysLent, advanced, checkOf, keptBy, placeAt, bareBy, bareTo, bareOf, valuedBy, valuedTo, valuedOf, readKey, readAt, stepFrom, stepOf, placeGood, goodOf, keysOf, lentState, stateGood, badReading, leaves, nextOf}
 
-abbrev outcome : Answer → Place → ℕ → Outcome
+abbrev outcome : Answer → Place → ℕ → Advance
 outcome a p n = record { answer = a; place = p; count = n }
 
 -- a bare key in XML mode
@@ -45,27 +45,27 @@ module _ (s : List ℕ) (html checks : Bool) (starts ends : List ℕ) (count : �
     (in-starts : starts' ≡ writtenBy checks v starts count (key .start))
     (in-ends : ends' ≡ writtenBy checks v ends count (key .end)) where
   module _ (on : html ≡ true) (p : Place) (there : p ≡ placeAt s at) where
-    pub bare-fresh : (n : ℕ) → v ≡ Fresh n → made (outcome (Empty key) p n) starts' ends' ≡ bareOf s html checks (lent starts ends count) key at
+    pub bare-fresh : (n : ℕ) → v ≡ Fresh n → advanced (outcome (Empty key) p n) starts' ends' ≡ bareOf s html checks (keysLent starts ends count) key at
     unfolding bareOf bareTo bareBy keptBy checkOf countBy
     bare-fresh n e = rw (on, sym verdict, in-starts, in-ends, e, there)
 
-    pub bare-same : (q : ℕ) → v ≡ Same q → made (outcome (Duplicated (key .start) q) p count) starts' ends' ≡ bareOf s html checks (lent starts ends count) key at
+    pub bare-same : (q : ℕ) → v ≡ Same q → advanced (outcome (Duplicated (key .start) q) p count) starts' ends' ≡ bareOf s html checks (keysLent starts ends count) key at
     unfolding bareOf bareTo bareBy keptBy checkOf countBy
     bare-same q e = rw (on, sym verdict, in-starts, in-ends, e, there)
 
-    pub bare-full : v ≡ Full → made (outcome (KeyTableFull (key .start)) Done count) starts' ends' ≡ bareOf s html checks (lent starts ends count) key at
+    pub bare-full : v ≡ Full → advanced (outcome (KeyTableFull (key .start)) Done count) starts' ends' ≡ bareOf s html checks (keysLent starts ends count) key at
     unfolding bareOf bareTo bareBy keptBy checkOf countBy
     bare-full e = rw (on, sym verdict, in-starts, in-ends, e)
 
-  pub valued-fresh : (n : ℕ) → v ≡ Fresh n → (x : Found) → x ≡ valueAt s html key at → made (outcome (x .answer) (x .place) n) starts' ends' ≡ valuedOf s html checks (lent starts ends count) key at
+  pub valued-fresh : (n : ℕ) → v ≡ Fresh n → (x : Found) → x ≡ valueAt s html key at → advanced (outcome (x .answer) (x .place) n) starts' ends' ≡ valuedOf s html checks (keysLent starts ends count) key at
   unfolding valuedOf valuedTo valuedBy keptBy checkOf countBy
   valued-fresh n e x f = rw (sym verdict, in-starts, in-ends, e, f)
 
-  pub valued-same : (q : ℕ) → v ≡ Same q → made (outcome (Duplicated (key .start) q) (SkipEqValue at) count) starts' ends' ≡ valuedOf s html checks (lent starts ends count) key at
+  pub valued-same : (q : ℕ) → v ≡ Same q → advanced (outcome (Duplicated (key .start) q) (SkipEqValue at) count) starts' ends' ≡ valuedOf s html checks (keysLent starts ends count) key at
   unfolding valuedOf valuedTo valuedBy keptBy checkOf countBy
   valued-same q e = rw (sym verdict, in-starts, in-ends, e)
 
-  pub valued-full : v ≡ Full → made (outcome (KeyTableFull (key .start)) Done count) starts' ends' ≡ valuedOf s html checks (lent starts ends count) key at
+  pub valued-full : v ≡ Full → advanced (outcome (KeyTableFull (key .start)) Done count) starts' ends' ≡ valuedOf s html checks (keysLent starts ends count) key at
   unfolding valuedOf valuedTo valuedBy keptBy checkOf countBy
   valued-full e = rw (sym verdict, in-starts, in-ends, e)
 
@@ -95,10 +95,10 @@ module _ (s : List ℕ) (html checks : Bool) (keys : Keys) (place : Place) where
 
 -- What is good: a law for each `return` of `good_in`.
 module _ (s starts ends : List ℕ) (count : ℕ) (place : Place) where
-  pub good-keys : tableGood (length s) starts ends count ≡ false → false ≡ goodOf s (lent starts ends count) place
+  pub good-keys : tableGood (length s) starts ends count ≡ false → false ≡ goodOf s (keysLent starts ends count) place
   good-keys k = rw k
 
-  pub good-place : tableGood (length s) starts ends count ≡ true → placeGood s place ≡ goodOf s (lent starts ends count) place
+  pub good-place : tableGood (length s) starts ends count ≡ true → placeGood s place ≡ goodOf s (keysLent starts ends count) place
   good-place k = rw k
 
 -- a good state stands, as `step_in` asks

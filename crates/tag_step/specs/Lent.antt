@@ -14,7 +14,7 @@ use Rattle.tag_step.specs.declared.Stepped.{Stepped}
 use Rattle.tag_step.specs.declared.Stepped.the-variants.{Made, LendMore}
 use Rattle.tag_step.specs.declared.Span.{Span}
 use Rattle.tag_step.specs.declared.Place.{Place}
-use Rattle.tag_step.specs.Next.{Keys, Reading, lent, made, bareOf, valuedOf, stepOf, lentState, badReading, leaves, nextOf}
+use Rattle.tag_step.specs.Next.{Keys, Reading, keysLent, advanced, bareOf, valuedOf, stepOf, lentState, badReading, leaves, nextOf}
 
 -- The iterator that lent tables are. What stands in an unused place is never read, so that any content would do for those that
 -- are not lent: zeros, as 7 leaves them.
@@ -43,8 +43,8 @@ pub data Taken : Type 0 where
   Short : Keys → Taken
 
 abbrev pub taken : Stepped → (starts ends : List ℕ) → ℕ → Taken
-taken (Made o) starts ends count = Took (made o starts ends)
-taken LendMore starts ends count = Short (lent starts ends count)
+taken (Made o) starts ends count = Took (advanced o starts ends)
+taken LendMore starts ends count = Short (keysLent starts ends count)
 
 -- A step that leaves more keys than the tables hold is not taken.
 unfoldable pub takenOn : Keys → Reading → Taken

@@ -20,7 +20,7 @@ use Rattle.tag_step.specs.declared.KeyRead.the-variants.{NoKey, Bare, Va
 use Rattle.tag_step.specs.declared.Answer.{Answer}
 use Rattle.tag_step.specs.declared.Answer.the-variants.{End, Empty, ExpectedEq, Duplicated, KeyTableFull, BadState}
 use Rattle.tag_step.specs.declared.Found.{Found}
-use Rattle.tag_step.specs.declared.Outcome.{Outcome}
+use Rattle.tag_step.specs.declared.Advance.{Advance}
 use Rattle.tag_step.specs.declared.IterState.{IterState}
 use Rattle.tag_step.specs.declared.Step.{Step}
 use Rattle.tag_step.specs.Read.{found, isAt, recoverOf, keyAt, valueAt}
@@ -41,11 +41,11 @@ abbrev pub reading : Found → Keys → Reading
 reading x keys = record { answer = x .answer; place = x .place; keys = keys }
 
 -- lent tables with their count, and what a step on them has made once it returns
-abbrev pub lent : List ℕ → List ℕ → ℕ → Keys
-lent starts ends count = record { starts = starts; ends = ends; count = count }
+abbrev pub keysLent : List ℕ → List ℕ → ℕ → Keys
+keysLent starts ends count = record { starts = starts; ends = ends; count = count }
 
-abbrev pub made : Outcome → List ℕ → List ℕ → Reading
-made o starts ends = record { answer = o .answer; place = o .place; keys = lent starts ends (o .count) }
+abbrev pub advanced : Advance → List ℕ → List ℕ → Reading
+advanced o starts ends = record { answer = o .answer; place = o .place; keys = keysLent starts ends (o .count) }
 
 -- The check of a key.
 
@@ -132,14 +132,14 @@ lentState place html checks starts ends count =
     record { place = place; html = html; «check_duplicates» = checks; starts = starts; ends = ends; count = count }
 
 unfoldable pub keysOf : IterState → Keys
-keysOf st = lent (st .starts) (st .ends) (st .count)
+keysOf st = keysLent (st .starts) (st .ends) (st .count)
 
 -- There are at most 256 keys, each not empty and inside the tag, and the place is good: whatever the checks say.
 abbrev pub goodOf : List ℕ → Keys → Place → Bool
 goodOf s keys place = tableGood (length s) (keys .starts) (keys .ends) (keys .count) && placeGood s place
 
 unfoldable pub stateGood : List ℕ → IterState → Bool
-stateGood s st = goodOf s (lent (st .starts) (st .ends) (st .count)) (st .place)
+stateGood s st = goodOf s (keysLent (st .starts) (st .ends) (st .count)) (st .place)
 
 -- A step on lent tables asks for what a good state has.
 pub record Stands (s : List ℕ) (keys : Keys) (place : Place) : Type 0 where

@@ -13,7 +13,7 @@ ghost use Prim.Native.Nat.{_+_, _^_, _<_, _≤_};
 ghost use lib.ListN.{length, replicate};
 ghost use Rattle.tag_step.specs.Numbers.{numberedStep};
 ghost use Rattle.tag_step.specs.Read.{isQuote, skipOf, skipEqValueOf, recoverOf, keyAt, closedOf, quotedOf, valueAt};
-ghost use Rattle.tag_step.specs.Next.{Stands, lent, placeAt, placeGood, goodOf, nextOf, uncheckedOf, opened, withChecks};
+ghost use Rattle.tag_step.specs.Next.{Stands, keysLent, placeAt, placeGood, goodOf, nextOf, uncheckedOf, opened, withChecks};
 ghost use Rattle.tag_step.specs.Lent.{taken, bareIn, valuedIn, stepIn};
 ghost use Rattle.tag_keys.specs.Keys.{KeysIn};
 use tag_keys::CAPACITY;
@@ -103,7 +103,7 @@ pub struct Found {
 }
 
 // What a step on lent tables makes: the answer, the place that it leaves, and how many keys are recorded.
-pub struct Outcome {
+pub struct Advance {
     pub answer: Answer,
     pub place: Place,
     pub count: usize,
@@ -111,7 +111,7 @@ pub struct Outcome {
 
 // What a step on tables of any length gives.
 pub enum Stepped {
-    Made(Outcome),
+    Made(Advance),
     // The next key is due to be recorded, and no place is lent for it: nothing is changed. The caller lends longer tables,
     // with the recorded keys in their places, and goes on.
     LendMore,
@@ -333,7 +333,7 @@ pub fn good_in<'a>(
     count: usize,
     place: Place,
 ) -> bool
-    ensures { λ r. ⌜ r ≡ goodOf (now (tag .entry)) (lent (now (starts .entry)) (now (ends .entry)) count) place ⌝ }
+    ensures { λ r. ⌜ r ≡ goodOf (now (tag .entry)) (keysLent (now (starts .entry)) (now (ends .entry)) count) place ⌝ }
 {
     if !tag_keys::keys_good(tag.len(), starts, ends, count) {
         return false;
@@ -358,11 +358,11 @@ fn key_only<'a>(
 ) -> Stepped
     requires { ⌜ KeysIn (now starts) (now ends) count (length (now tag)) ⌝ }
     requires { ⌜ (key .start < key .end) × (key .end ≤ length (now tag)) ⌝ }
-    ensures { λ r. ⌜ taken r (now (starts .exit)) (now (ends .exit)) count ≡ bareIn (now (tag .entry)) html checks (lent (now (starts .entry)) (now (ends .entry)) count) key offset ⌝ }
+    ensures { λ r. ⌜ taken r (now (starts .exit)) (now (ends .exit)) count ≡ bareIn (now (tag .entry)) html checks (keysLent (now (starts .entry)) (now (ends .entry)) count) key offset ⌝ }
 {
     let place = place_at(tag, offset);
     if !html {
-        return Stepped::Made(Outcome {
+        return Stepped::Made(Advance {
             answer: Answer::ExpectedEq(offset),
             place: place,
             count: count,
@@ -374,18 +374,18 @@ fn key_only<'a>(
                 return Stepped::LendMore;
             }
             tag_keys::record_key(starts, ends, checks, count, key.start, key.end);
-            Stepped::Made(Outcome {
+            Stepped::Made(Advance {
                 answer: Answer::Empty(key),
                 place: place,
                 count: more,
             })
         }
-        Checked::Same(earlier) => Stepped::Made(Outcome {
+        Checked::Same(earlier) => Stepped::Made(Advance {
             answer: Answer::Duplicated(key.start, earlier),
             place: place,
             count: count,
         }),
-        Checked::Full => Stepped::Made(Outcome {
+        Checked::Full => Stepped::Made(Advance {
             answer: Answer::KeyTableFull(key.start),
             place: Place::Done,
             count: count,
@@ -407,7 +407,7 @@ fn key_valued<'a>(
     requires { ⌜ KeysIn (now starts) (now ends) count (length (now tag)) ⌝ }
     requires { ⌜ (key .start < key .end) × (key .end ≤ length (now tag)) ⌝ }
     requires { ⌜ eq < length (now tag) ⌝ }
-    ensures { λ r. ⌜ taken r (now (starts .exit)) (now (ends .exit)) count ≡ valuedIn (now (tag .entry)) html checks (lent (now (starts .entry)) (now (ends .entry)) count) key eq ⌝ }
+    ensures { λ r. ⌜ taken r (now (starts .exit)) (now (ends .exit)) count ≡ valuedIn (now (tag .entry)) html checks (keysLent (now (starts .entry)) (now (ends .entry)) count) key eq ⌝ }
 {
     match tag_keys::check_for_duplicates(tag, starts, ends, checks, count, key.start, key.end) {
         Checked::Fresh(more) => {
@@ -418,18 +418,18 @@ fn key_valued<'a>(
             let value = read_value(tag, html, key, eq);
             let answer = value.answer;
             let place = value.place;
-            Stepped::Made(Outcome {
+            Stepped::Made(Advance {
                 answer: answer,
                 place: place,
                 count: more,
             })
         }
-        Checked::Same(earlier) => Stepped::Made(Outcome {
+        Checked::Same(earlier) => Stepped::Made(Advance {
             answer: Answer::Duplicated(key.start, earlier),
             place: Place::SkipEqValue(eq),
             count: count,
         }),
-        Checked::Full => Stepped::Made(Outcome {
+        Checked::Full => Stepped::Made(Advance {
             answer: Answer::KeyTableFull(key.start),
             place: Place::Done,
             count: count,
@@ -448,18 +448,18 @@ pub fn step_in<'a>(
     count: usize,
     place: Place,
 ) -> Stepped
-    requires { ⌜ Stands (now tag) (lent (now starts) (now ends) count) place ⌝ }
-    ensures { λ r. ⌜ taken r (now (starts .exit)) (now (ends .exit)) count ≡ stepIn (now (tag .entry)) html checks (lent (now (starts .entry)) (now (ends .entry)) count) place ⌝ }
+    requires { ⌜ Stands (now tag) (keysLent (now starts) (now ends) count) place ⌝ }
+    ensures { λ r. ⌜ taken r (now (starts .exit)) (now (ends .exit)) count ≡ stepIn (now (tag .entry)) html checks (keysLent (now (starts .entry)) (now (ends .entry)) count) place ⌝ }
 {
     let Start::From(from) = recover(tag, place) else {
-        return Stepped::Made(Outcome {
+        return Stepped::Made(Advance {
             answer: Answer::End,
             place: place,
             count: count,
         });
     };
     match read_key(tag, from) {
-        KeyRead::NoKey => Stepped::Made(Outcome {
+        KeyRead::NoKey => Stepped::Made(Advance {
             answer: Answer::End,
             place: Place::Done,
             count: count,

@@ -39,9 +39,9 @@ use denote.Triple.Spec.{Meets, tripleOf}
 use denote.Triple.Table.{entered, cited}
 use denote.Triple.Walked.{says, Stays, stay-none, stay-none-slice, walkOf, goes-none, goes-none-slice, Walks, ends-at, walked, walk-meets}
 use denote.Exit.{yes}
-use Rattle.name.specs.declared.Declares.{Declares}
-use Rattle.name.proofs.Declares as N
-use Rattle.name.proofs.Declares.Laws as N′
+use Rattle.name.specs.declared.PrefixDeclaration.{PrefixDeclaration}
+use Rattle.name.proofs.PrefixDeclaration as N
+use Rattle.name.proofs.PrefixDeclaration.Laws as N′
 use Rattle.scope_table.specs.declared.NamespaceResolver.{NamespaceResolver}
 use Rattle.scope_table.specs.declared.Changed.{Changed}
 use Rattle.scope_declare.specs.Declare.{addOf}
@@ -71,7 +71,7 @@ stayed = (stay-none (λ _. T.the-row) yes, (stay-none (λ _. N.the-row) yes, (st
 abbrev G : {M : Type 1} (𝓤 : URA M) (H : Heap 𝓤) (A : Atoms 𝓤) (at-mem : Memory → SProp 𝓤) (run : Routine → Fun 𝓤) → Contract 𝓤
 G 𝓤 H A at-mem run = tripleOf 𝓤 H A g.signature (g.spec 𝓤 H A at-mem run)
 
-module _ {M : Type 1} (𝓤 : URA M) (H : Heap 𝓤) (A : Atoms 𝓤) (W : Given 𝓤 H A) (at-mem : Memory → SProp 𝓤) (run : Routine → Fun 𝓤) (κ : Lft) (q : Share) (h : NamespaceResolver) (d : Declares) (p : RefT (List ℕ)) (v : RefT (List ℕ)) where
+module _ {M : Type 1} (𝓤 : URA M) (H : Heap 𝓤) (A : Atoms 𝓤) (W : Given 𝓤 H A) (at-mem : Memory → SProp 𝓤) (run : Routine → Fun 𝓤) (κ : Lft) (q : Share) (h : NamespaceResolver) (d : PrefixDeclaration) (p : RefT (List ℕ)) (v : RefT (List ℕ)) where
   abbrev declaresVal : Val
   declaresVal = EL.val N.the-type N′.the-laws d
 

@@ -11,7 +11,7 @@ use Rattle.tag_step.specs.declared.Step.{Step}
 use Rattle.tag_step.proofs.Good.{Sized, next-sized, opened-sized}
 use Rattle.tag_batch.specs.Batch.{fiveOf}
 use Rattle.tag_batch.proofs.Turns.{code-end, code-other}
-use Rattle.replay_tags.specs.Replay.{agreesWith}
+use Rattle.replay_tags.specs.Replay.{answersAgree}
 use Rattle.replay_tags.proofs.Turns.{count-none, left-some, one-there, same-as, ends-at, one-too-many, one-differs, one-on, rest-on}
 use Rattle.replay_tags.proofs.agrees_carried.Statement.{statement}
 use Rattle.replay_tags.proofs.agrees_carried.Tie as tie
@@ -20,7 +20,7 @@ abbrev Inv-loop : tie.InvT-loop
 Inv-loop tag html checks opening answers recorded state₀ total₀ state total =
     (total ≤ answers)
     × Sized state
-    × (agreesWith tag (opened opening html checks) answers recorded ≡ agreesWith tag state (answers - total) (drop (10 * total) recorded))
+    × (answersAgree tag (opened opening html checks) answers recorded ≡ answersAgree tag state (answers - total) (drop (10 * total) recorded))
 
 abbrev μ-loop : tie.MeasureT-loop
 μ-loop tag html checks opening answers recorded state₀ total₀ state total = answers - total

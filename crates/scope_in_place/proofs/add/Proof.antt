@@ -40,13 +40,13 @@ use denote.Triple.Table.{entered, cited}
 use denote.Triple.Clauses.{ensured, lasts}
 use denote.Triple.Walked.{says, Stays, stay-ref, stay-none, stay-none-slice, walkOf, AllGo, goes-none, goes-none-slice, goes-ref, Walks, ends-at, walked, walk-meets}
 use denote.Exit.{yes}
-use Rattle.name.specs.declared.Declares.{Declares}
+use Rattle.name.specs.declared.PrefixDeclaration.{PrefixDeclaration}
 use Rattle.scope_table.specs.Answer.{numberedChange}
 use Rattle.scope_table.specs.declared.NamespaceResolver.{NamespaceResolver}
 use Rattle.scope_table.specs.declared.Changed.{Changed}
 use Rattle.scope_declare.specs.Declare.{addOf}
-use Rattle.name.proofs.Declares as N
-use Rattle.name.proofs.Declares.Laws as N′
+use Rattle.name.proofs.PrefixDeclaration as N
+use Rattle.name.proofs.PrefixDeclaration.Laws as N′
 use Rattle.scope_table.proofs.NamespaceResolver as T
 use Rattle.scope_table.proofs.Changed as D
 use Rattle.scope_table.proofs.Changed.Laws as D′
@@ -65,7 +65,7 @@ abbrev Bytes : Type 0
 Bytes = RefT (List ℕ)
 
 abbrev Arg : Type 0
-Arg = RefT NamespaceResolver × (Declares × (Bytes × (Bytes × Unit {0})))
+Arg = RefT NamespaceResolver × (PrefixDeclaration × (Bytes × (Bytes × Unit {0})))
 
 abbrev stayed : Stays (f.ended .signature .params) (f.ended .kept)
 stayed = (stay-ref (0 ∷ []) tt (plain (λ _. T.the-row)), (stay-none (λ _. N.the-row) yes, (stay-none-slice (1 ∷ []) tt (plain (λ _. u8)) yes, (stay-none-slice (1 ∷ []) tt (plain (λ _. u8)) yes, tt))))
@@ -75,7 +75,7 @@ module _ {M : Type 1} (𝓤 : URA M) (H : Heap 𝓤) (A : Atoms 𝓤) (at-mem : 
   abbrev G : Contract 𝓤
   G = tripleOf 𝓤 H A g.signature (g.spec 𝓤 H A at-mem run)
 
-module _ {M : Type 1} (𝓤 : URA M) (H : Heap 𝓤) (A : Atoms 𝓤) (W : Given 𝓤 H A) (at-mem : Memory → SProp 𝓤) (run : Routine → Fun 𝓤) (κ κ₁ : Lft) (q q₁ : Share) (b o : ℕ) (γ : GName) (h : NamespaceResolver) (d : Declares) (p v : Bytes) where
+module _ {M : Type 1} (𝓤 : URA M) (H : Heap 𝓤) (A : Atoms 𝓤) (W : Given 𝓤 H A) (at-mem : Memory → SProp 𝓤) (run : Routine → Fun 𝓤) (κ κ₁ : Lft) (q q₁ : Share) (b o : ℕ) (γ : GName) (h : NamespaceResolver) (d : PrefixDeclaration) (p v : Bytes) where
   abbrev x : Arg
   x = (record { ptr = (b, o); name = γ; now = h }, (d, (p, (v, tt))))
 
