@@ -11,6 +11,7 @@ use lib.Seq.{drop-drop}
 use borrow.Author.Tests.{leb-true, leb-false}
 use Rattle.scan.specs.First.{firstFrom}
 use Rattle.scan.specs.Bytes.{part, isByte, notSpace, Marks}
+use Rattle.scan.proofs.Bytes.{inside-part}
 use Rattle.scan.proofs.Laws.{first, picks}
 use Rattle.scan.proofs.Lists.{part-is, part-length}
 use Rattle.name.specs.Bind.{reservedBind, refusedText}
@@ -34,7 +35,6 @@ use Rattle.tag_step.proofs.Whole.{StartIn, recover-in}
 use Rattle.tag_step.proofs.Ways.{value-ways, step-ways}
 use Rattle.tag_step.proofs.Run.{opened-answers}
 use Rattle.tag_parts.specs.Parts.{keyPart, valuePart}
-use Rattle.tag_parts.proofs.Parts.{span-inside}
 use Rattle.scope_table.specs.Table.{DEEPEST, validOf}
 use Rattle.scope_table.specs.Answer.{isDone}
 use Rattle.scope_table.specs.declared.NamespaceResolver.{NamespaceResolver}
@@ -172,8 +172,8 @@ AllPlaced s (d ∷ more) = Placed s d × AllPlaced s more
 
 then-placed : (s : List ℕ) (a : Answer) (more : List Declaration) → In s a → AllPlaced s more → AllPlaced s (declarationThen s a more)
 unfolding declarationThen keyPart valuePart
-then-placed s (DoubleQ k v) more i p = (placed s _ _ k v (i .0) (i .1) (sym (span-inside s k (i .0 .ahead) (i .0 .inside))) (sym (span-inside s v (i .1 .ahead) (i .1 .inside))), p)
-then-placed s (SingleQ k v) more i p = (placed s _ _ k v (i .0) (i .1) (sym (span-inside s k (i .0 .ahead) (i .0 .inside))) (sym (span-inside s v (i .1 .ahead) (i .1 .inside))), p)
+then-placed s (DoubleQ k v) more i p = (placed s _ _ k v (i .0) (i .1) (inside-part s (k .start) (k .end) (i .0 .ahead) (i .0 .inside)) (inside-part s (v .start) (v .end) (i .1 .ahead) (i .1 .inside)), p)
+then-placed s (SingleQ k v) more i p = (placed s _ _ k v (i .0) (i .1) (inside-part s (k .start) (k .end) (i .0 .ahead) (i .0 .inside)) (inside-part s (v .start) (v .end) (i .1 .ahead) (i .1 .inside)), p)
 then-placed s (Unquoted k v) more i p = tt
 then-placed s (Empty k) more i p = tt
 then-placed s End more i p = tt
