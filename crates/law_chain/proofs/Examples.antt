@@ -114,7 +114,7 @@ chain-fine = (
 )
 
 pub chain-not-refused : NoneRefused LIMIT chain
-unfolding NoneRefused pushedOf bodyText attributesThen attributeThen quoteByte firstOf firstTo firstFrom isSpace notSpace endsKey isByte part sameBytes bytesFrom bytes keyGood keyBad countGood tableGood nameAt sameKey oldestOf earlierOf checkedBy checkedOf writtenBy countBy isAt isQuote skipTo skipOf recoverOf keyEq keyTo keyFrom keyAt quoted closedOf quotedTo quotedOf unquotedTo otherOf valueBy valueFrom valueAt checkOf keptBy placeAt bareBy bareTo bareOf valuedBy valuedTo valuedOf readKey readAt stepFrom stepOf placeGood keysOf stateGood noKeys badReading leaves nextOf opened isEnd consUnless runOf answersOf inside keyPart valuePart xmlPrefix xmlnsPrefix xmlUri xmlnsUri isXml isXmlns isXmlUri isXmlnsUri reservedBind opening isNamed declaresOf declaredPrefix allBelow allZero over builtIn Table.bodyText levelBefore isRecord opensBuiltIn isChain isRising isWithin isClear isTable validOf freshOf boundOf refusalOf appendOf namedOf judgeOf settleOf declareOf limitedOf declarationOf declarationThen declarationsOf tagAnswers thenOf declareAll raisedOf pushOf
+unfolding NoneRefused pushedOf bodyText attributesThen attributeThen quoteByte firstOf firstTo firstFrom isSpace notSpace endsKey isByte part sameBytes bytesFrom bytes keyGood keyBad countGood tableGood nameAt sameKey oldestOf earlierOf checkedBy checkedOf writtenBy countBy isAt isQuote skipTo skipOf recoverOf keyEq keyTo keyFrom keyAt quoted closedOf quotedTo quotedOf unquotedTo otherOf valueBy valueFrom valueAt checkOf keptBy placeAt bareBy bareTo bareOf valuedBy valuedTo valuedOf readKey readAt stepFrom stepOf placeGood keysOf stateGood noKeys badReading leaves nextOf opened isEnd consUnless runOf answersOf inside keyPart valuePart xmlPrefix xmlnsPrefix xmlUri xmlnsUri isXml isXmlns isXmlUri isXmlnsUri reservedBind opening isNamed declaresOf declaredPrefix allBelow allZero over builtIn Table.textOf levelBefore isRecord opensBuiltIn isChain isRising isWithin isClear isTable validOf freshOf boundOf refusalOf appendOf namedOf judgeOf settleOf declareOf limitedOf declarationOf declarationThen declarationsOf tagAnswers thenOf declareAll raisedOf pushOf
 chain-not-refused = (refl, (refl, (refl, tt)))
 
 -- What lookups hand back after the three pushes.
