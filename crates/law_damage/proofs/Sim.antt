@@ -23,12 +23,12 @@ use Rattle.tag_step.specs.Next.{Keys, Reading, reading, checkOf, keptBy, valued
 use Rattle.tag_step.specs.Run.{isEnd, consUnless, runFrom}
 use Rattle.tag_step.proofs.Paths.{next-from, value-bad}
 use Rattle.tag_step.proofs.Whole.{StartIn, recover-in}
-use Rattle.tag_step.proofs.Progress.{StartPast, step-forward}
+use Rattle.tag_step.proofs.Progress.{StartPast, read-forward}
 use Rattle.tag_step.proofs.Run.{run-end, run-ended}
 use Rattle.law_damage.specs.Damage.{Marked, kept, struck, was, Cut, wholeValue, cuts, Fits, AllFit, moveSpan, moveAnswer, becomes, Apart}
 use Rattle.law_damage.proofs.Recorded.{KeysLike, moveChecked}
 use Rattle.law_damage.proofs.Step.{moveStart, startAt, after-in, key-move, recover-move, ReadLike, checks-move, keeps-move, read-move, read-stops}
-use Rattle.law_damage.proofs.Cuts.{Closed, closed-order, read-cut, nextStart, nextKeys, uncons, cut-closed, ApartStart, nil-apart, read-past, cuts-apart}
+use Rattle.law_damage.proofs.Cuts.{Closed, closed-order, read-cut, nextStart, nextKeys, uncons, cut-closed, ApartStart, none-apart, read-past, cuts-apart}
 
 -- the run of a cut stands in t
 pub record Put (f : ℕ → ℕ) (t : List ℕ) (c : Cut) : Type 0 where
@@ -178,14 +178,14 @@ module _ (f : ℕ → ℕ) (s t : List ℕ) (checks : Bool) where
       let p = readAt s false checks ks o .place in
       let far = bound-start (length s) (nextStart s checks ks o) cs (recover-in s p) d in
       let y = read-move w false checks like (omega (arith, read-stops s checks ks o (w .inside))) in
-      (y, ap (recoverOf t) (y .place) ∙ recover-move w p (after-in s o p (step-forward s false checks ks o (w .inside))) far)
+      (y, ap (recoverOf t) (y .place) ∙ recover-move w p (after-in s o p (read-forward s false checks ks o (w .inside))) far)
 
   -- the end comes in both
   at-end : (n : ℕ) (ks kt : Keys) (o : ℕ) → KeysLike f s t ks kt → Rel f s t o [] → isEnd (readAt s false checks ks o .answer) ≡ true
       → runT (suc n) kt (From (f o)) ≡ []
   unfolding runFrom consUnless
   at-end n ks kt o like rel e =
-      let y = step-like ks kt o [] like rel (nil-apart (length s) (nextStart s checks ks o)) in
+      let y = step-like ks kt o [] like rel (none-apart (length s) (nextStart s checks ks o)) in
       rw (y .0 .answer, end-moved f (readAt s false checks ks o .answer), e)
 
   module _ (n : ℕ) (ms : List Marked) (later : Later n ms) where

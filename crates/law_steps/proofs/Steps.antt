@@ -121,7 +121,7 @@ module _ (s : List ℕ) (st : IterState) (more : nextOf s st .answer ≡ End →
         goes = e;
         inside = h;
         beyond = subst (λ (y : Step). Beyond s o (y .state .place)) (next-steps s st g (readAt s (st .html) (st .«check_duplicates») (keysOf st) o) r)
-            (after-beyond s o _ (progress.step-forward s (st .html) (st .«check_duplicates») (keysOf st) o h));
+            (after-beyond s o _ (progress.read-forward s (st .html) (st .«check_duplicates») (keysOf st) o h));
       }
 
 pub step-forward : StepForward

@@ -12,7 +12,6 @@ use replay::Replayed;
 use replay::RunEnd;
 use scope_lookup::Namespace;
 use scope_nil::HasNil;
-use scope_nil::Nil;
 use scope_table::NamespaceResolver;
 use tag_step::IterState;
 use tag_step::Place;
@@ -48,23 +47,11 @@ fn namespace_reply(told: Namespace) -> Reply {
     }
 }
 
-// What a search says: 1 for yes, 0 for no, or a refusal's number.
-fn nil_code(answer: Nil) -> usize {
-    match answer {
-        Nil::Yes => 1,
-        Nil::No => 0,
-        Nil::BadState => 7,
-        Nil::BadResolver => 20,
-        Nil::LendMore => 98,
-        Nil::WrongLength => 99,
-    }
-}
-
 // The code, the place that is left, by its kind and its position, and how many keys are recorded.
 fn nil_reply(found: HasNil) -> Reply {
     let answer = found.answer;
     let state = found.state;
-    let code = nil_code(answer);
+    let code = answer.number();
     let count = state.count;
     let place = state.place;
     match place {

@@ -23,7 +23,7 @@ use Rattle.tag_step.specs.Next.{Keys, Reading, Stands, keysLent, advance
 use Rattle.tag_step.specs.Lent.{taken, stepIn}
 use Rattle.tag_step.proofs.Whole.{starts-in, good-stands, next-steps}
 use Rattle.tag_step.proofs.Taken.{Held, step-keeps-held, step-held, room-made, room-never}
-use Rattle.tag_step.proofs.Progress.{after-good, step-forward}
+use Rattle.tag_step.proofs.Progress.{after-good, read-forward}
 
 -- the place that a step leaves is good
 pub step-stands : (s : List ℕ) (html checks : Bool) (keys : Keys) (place : Place) → placeGood s place ≡ true → placeGood s (stepOf s html checks keys place .place) ≡ true
@@ -31,7 +31,7 @@ unfolding stepOf stepFrom
 step-stands s html checks keys place g = by (recoverOf s place) refl where
   by : (x : Start) → recoverOf s place ≡ x → placeGood s (stepFrom s html checks keys place x .place) ≡ true
   by Ended e = g
-  by (From o) e = after-good s o _ (step-forward s html checks keys o (starts-in s place o e))
+  by (From o) e = after-good s o _ (read-forward s html checks keys o (starts-in s place o e))
 
 -- The tables of a state of the code have 256 places each.
 pub record Sized (st : IterState) : Type 0 where
