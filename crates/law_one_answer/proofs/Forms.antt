@@ -18,6 +18,8 @@ use Rattle.replay_forms.proofs.opened as replay-forms·opened
 use Rattle.replay_forms.proofs.opened_html as replay-forms·opened-html
 use Rattle.replay_forms.proofs.next as replay-forms·next
 use Rattle.replay_forms.proofs.has_nil as replay-forms·has-nil
+use Rattle.replay_forms.proofs.bindings as replay-forms·bindings
+use Rattle.replay_forms.proofs.bindings_of as replay-forms·bindings-of
 
 module _ {M : Type 1} (𝓤 : URA M) (H : Heap 𝓤) (A : Atoms 𝓤) (mem : Memory → SProp 𝓤) (run : Routine → Fun 𝓤) where
   pub replay-forms-set-level : Settled 𝓤 replay-forms·set-level.ended (replay-forms·set-level.clauses 𝓤 H A mem run)
@@ -46,3 +48,9 @@ module _ {M : Type 1} (𝓤 : URA M) (H : Heap 𝓤) (A : Atoms 𝓤) (mem : Mem
 
   pub replay-forms-has-nil : Settled 𝓤 replay-forms·has-nil.ended (replay-forms·has-nil.clauses 𝓤 H A mem run)
   replay-forms-has-nil κs a g y z = alone 𝓤 _ y z refl
+
+  pub replay-forms-bindings : Settled 𝓤 replay-forms·bindings.ended (replay-forms·bindings.clauses 𝓤 H A mem run)
+  replay-forms-bindings κs a g y z = alone 𝓤 _ y z refl
+
+  pub replay-forms-bindings-of : Settled 𝓤 replay-forms·bindings-of.ended (replay-forms·bindings-of.clauses 𝓤 H A mem run)
+  replay-forms-bindings-of κs a g y z = alone 𝓤 _ y z refl

@@ -35,8 +35,15 @@ abbrev pub heldOwn : NamespaceResolver → Fml
 heldOwn h = T.the-row .own h (heldVal h ∷ [])
 
 module _ {M : Type 1} (𝓤 : URA M) (H : Heap 𝓤) (A : Atoms 𝓤) (W : Given 𝓤 H A) (σ : Lft) (l : ℕ) where
-  -- any struct: its cell, and what it owns, at the value that the reference says last
-  back : (D : Declared) (L : LL.Laws D) (γ : GName) (z : row D .Denot) → ent 𝓤 (sep 𝓤 (A .dead σ) (sep 𝓤 (A .lent σ (Body (mem (row D)) l 0 γ)) (A .res γ (row D .coded .code z))))
+  -- ---- any struct, from its cell and what it owns
+  pub lends-struct : (D : Declared) (L : LL.Laws D) (z : row D .Denot) → ent 𝓤 (sep 𝓤 (sem 𝓤 H A (cellAt fullShare (row D .mir) (LL.val D L z ∷ []) l 0)) (sem 𝓤 H A (row D .own z (LL.val D L z ∷ [])))) (H .⇛ (ex 𝓤 (LentRef 𝓤 H A W (row D) (named 0) σ z l 0)))
+  unfolding partOf
+  lends-struct D L z =
+      qed W (‵ (cellAt fullShare (row D .mir) (LL.val D L z ∷ []) l 0) ∷ ‵ (row D .own z (LL.val D L z ∷ [])) ∷ []) ∵ fjoin ! $
+      fpack ! (List Val) (λ vs. fsep (cellAt fullShare (row D .mir) vs l 0) (row D .own z vs)) (LL.val D L z ∷ []) $ by ! (lends-ref 𝓤 H A W (row D) (named 0) σ z l 0)
+
+  -- both again, at the value that the reference says last
+  pub back : (D : Declared) (L : LL.Laws D) (γ : GName) (z : row D .Denot) → ent 𝓤 (sep 𝓤 (A .dead σ) (sep 𝓤 (A .lent σ (Body (mem (row D)) l 0 γ)) (A .res γ (row D .coded .code z))))
       (H .⇛ (sep 𝓤 (sem 𝓤 H A (cellAt fullShare (row D .mir) (LL.val D L z ∷ []) l 0)) (sem 𝓤 H A (row D .own z (LL.val D L z ∷ [])))))
   unfolding partOf
   back D L γ z =

@@ -5,6 +5,7 @@
 // The borrow checker covers no function that lends a struct, or has a local of one that holds a reference: each one here
 // has a walk of its code under proofs/.
 use name::PrefixDeclaration;
+use scope_listing::Listing;
 use scope_nil::HasNil;
 use scope_table::Changed;
 use scope_table::NamespaceResolver;
@@ -15,6 +16,7 @@ ghost use mathlib.Core.Path.{_≡_};
 ghost use mathlib.Core.Bool.{true, false};
 ghost use Rattle.tag_step.specs.Next.{nextOf, opened};
 ghost use Rattle.scope_nil.specs.Nil.{hasNilOf};
+ghost use Rattle.scope_listing.specs.Listing.{bindingsOf, bindingsAtOf};
 ghost use Rattle.scope_change.specs.Change.{levelOf};
 ghost use Rattle.scope_declare.specs.Declare.{addOf, popOf, limitedOf};
 ghost use Rattle.scope_push.specs.Push.{pushOf};
@@ -116,5 +118,31 @@ pub fn has_nil(state: IterState, tag: &[u8], resolver: NamespaceResolver) -> Has
     HasNil {
         answer: answer,
         state: it.state,
+    }
+}
+
+// `scope_listing_carried::bindings`, and `NamespaceBindingsIter::next` where the iterator is put at a place.
+pub fn bindings(r: NamespaceResolver, cursor: usize) -> Listing
+    ensures { λ l. ⌜ l ≡ bindingsOf cursor r ⌝ }
+{
+    let mut it = scope_listing_carried::bindings(&r);
+    it.cursor = cursor;
+    let answer = it.next();
+    Listing {
+        answer: answer,
+        place: it.cursor,
+    }
+}
+
+// `scope_listing_carried::bindings_of`, and `NamespaceBindingsOfLevelIter::next` in the same way.
+pub fn bindings_of(r: NamespaceResolver, level: u16, cursor: usize) -> Listing
+    ensures { λ l. ⌜ l ≡ bindingsAtOf level cursor r ⌝ }
+{
+    let mut it = scope_listing_carried::bindings_of(&r, level);
+    it.cursor = cursor;
+    let answer = it.next();
+    Listing {
+        answer: answer,
+        place: it.cursor,
     }
 }

@@ -255,8 +255,8 @@ fn make<'a>(
     }
 }
 
-// The same calls in the other form: those that change a resolver on one that is lent to them, and names by the call that is
-// told whether a default is wanted.
+// The same calls in the other form: those that change a resolver on one that is lent to them, names by the call that is
+// told whether a default is wanted, and listings by the iterators that carry the resolver.
 fn make_own<'a>(
     r: NamespaceResolver,
     call: RecordedCall,
@@ -290,8 +290,8 @@ fn make_own<'a>(
         )),
         RecordedCall::ResolveAttribute => looked_up(r, scope_lookup::resolve(r, first, false)),
         RecordedCall::ResolveElement => looked_up(r, scope_lookup::resolve(r, first, true)),
-        RecordedCall::Bindings => listed_as(r, scope_listing::bindings(r, replay::wide(a))),
-        RecordedCall::BindingsOf => listed_as(r, scope_listing::bindings_of(r, b, replay::wide(a))),
+        RecordedCall::Bindings => listed_as(r, replay_forms::bindings(r, replay::wide(a))),
+        RecordedCall::BindingsOf => listed_as(r, replay_forms::bindings_of(r, b, replay::wide(a))),
     }
 }
 

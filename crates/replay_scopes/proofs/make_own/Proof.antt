@@ -1,7 +1,6 @@
 -- `replay_scopes::make_own` meets its contract: each form answers and leaves what the call by value does.
 use mathlib.Core.Path.{_∙_}
 use Rattle.scope_lookup.proofs.Numbers.{resolved-apart}
-use Rattle.scope_listing.proofs.Numbers.{listing-apart}
 use Rattle.replay_scopes.specs.Calls.{calledOf}
 use borrow.Author.Needs.{needs}
 use Rattle.replay_scopes.proofs.make_own.Statement.{statement}
@@ -156,11 +155,11 @@ returns-9 c = c .looked-up2 .ensures ∙ rw (resolved-apart _ _ (c .before .reso
 
 returns-10 : tie.Need-returns-10
 unfolding calledOf
-returns-10 c = c .listed-as .ensures ∙ rw (listing-apart _ _ (c .before .bindings .ensures), c .before .before .wide3 .ensures, c .before .before .before .enum-told10 .given .1)
+returns-10 c = c .listed-as .ensures ∙ rw (c .before .bindings .ensures, c .before .before .wide3 .ensures, c .before .before .before .enum-told10 .given .1)
 
 returns-11 : tie.Need-returns-11
 unfolding calledOf
-returns-11 c = c .listed-as2 .ensures ∙ rw (listing-apart _ _ (c .before .bindings-of .ensures), c .before .before .wide4 .ensures, c .before .before .before .enum-told11 .given .1)
+returns-11 c = c .listed-as2 .ensures ∙ rw (c .before .bindings-of .ensures, c .before .before .wide4 .ensures, c .before .before .before .enum-told11 .given .1)
 
 pub make-own-spec : {M : Type 1} → statement M
 make-own-spec =
