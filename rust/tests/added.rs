@@ -306,12 +306,32 @@ fn read_within(levels: usize, content: &str) -> usize {
     read
 }
 
+/// The same where the loop has the iterator; a build without optimisation then takes more stack for each level.
+fn read_by_value(levels: usize, tag: &BytesStart) -> usize {
+    let mut read = 0;
+    for attribute in tag.attributes() {
+        read += attribute.unwrap().value.len();
+        if read == 1 && levels > 1 {
+            read += read_by_value(levels - 1, tag);
+        }
+    }
+    read
+}
+
+/// What is read in a thread with 2 MB of stack.
+fn in_2_mb(read: impl FnOnce() -> usize + Send + 'static) -> usize {
+    let reader = thread::Builder::new().stack_size(2 << 20).spawn(read);
+    reader.unwrap().join().unwrap()
+}
+
 #[test]
 fn an_iterator_for_each_of_1500_levels() {
-    let content = " a='1' b='22'".to_string();
-    let reader = thread::Builder::new().stack_size(2 << 20);
-    let read = reader.spawn(move || read_within(1_500, &content));
-    assert_eq!(read.unwrap().join().unwrap(), 3 * 1_500);
+    let read = in_2_mb(|| read_within(1_500, " a='1' b='22'"));
+    assert_eq!(read, 3 * 1_500);
+    let levels = if cfg!(debug_assertions) { 600 } else { 1_500 };
+    let tag = BytesStart::from_content("t a='1' b='22'", 1);
+    let read = in_2_mb(move || read_by_value(levels, &tag));
+    assert_eq!(read, 3 * levels);
 }
 
 #[test]

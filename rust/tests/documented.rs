@@ -384,6 +384,18 @@ mod attributes {
     }
 
     #[test]
+    fn one_attribute_is_looked_for_by_its_whole_name() {
+        let start = tag("chunk p:id='1' idx='2' id='3'");
+        for (name, value) in [("id", "3"), ("p:id", "1"), ("idx", "2")] {
+            let found = start.try_get_attribute(name);
+            assert_eq!(found, Ok(Some(attribute(name, value))));
+        }
+        for name in ["d", "i", "x", "p", ":id", "ID", ""] {
+            assert_eq!(start.try_get_attribute(name), Ok(None), "{name}");
+        }
+    }
+
+    #[test]
     fn a_tag_is_a_text() {
         fn kept() -> BytesStart<'static> {
             let content = String::from("chunk id='c-17'");
@@ -817,6 +829,35 @@ mod scopes {
             assert_eq!(bindings.by_ref().collect::<Vec<_>>(), wanted);
             assert_eq!(bindings.next(), None);
         }
+    }
+
+    /// As many as each bound says are listed from each place on, at least and at most.
+    fn within_bounds<'a>(
+        mut bindings: impl Iterator<Item = (PrefixDeclaration<'a>, Namespace<'a>)> + Clone,
+    ) {
+        loop {
+            let (least, most) = bindings.size_hint();
+            let listed = bindings.clone().count();
+            assert!(least <= listed && most.is_none_or(|most| listed <= most));
+            if bindings.next().is_none() {
+                break;
+            }
+        }
+    }
+
+    #[test]
+    fn listings_say_how_many_they_may_list() {
+        let mut resolver = NamespaceResolver::default();
+        within_bounds(resolver.bindings());
+        within_bounds(resolver.bindings_of(0));
+        for content in ["a xmlns='1' xmlns:p='2'", "b xmlns='' xmlns:q='3'"] {
+            resolver.push(&tag(content)).unwrap();
+            within_bounds(resolver.bindings());
+            (0..4).for_each(|level| within_bounds(resolver.bindings_of(level)));
+        }
+        // the records behind the place: those of the built-in bindings are a level's alone
+        assert_eq!(resolver.bindings().size_hint(), (0, Some(4)));
+        assert_eq!(resolver.bindings_of(1).size_hint(), (0, Some(6)));
     }
 
     #[test]

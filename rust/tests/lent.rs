@@ -212,6 +212,34 @@ fn a_copy_and_a_resumed_one_are_the_same() {
     }
 }
 
+#[test]
+fn a_copy_leaves_nothing_of_what_was_there() {
+    let mut resolver = NamespaceResolver::default();
+    let tag = BytesStart::from_content("a xmlns:p='urn:p'", 1);
+    resolver.push(&tag).unwrap();
+    let mut fresh = Aligned::<1_024>::zeros();
+    let memory = Lent::from_bytes(&mut fresh.0).unwrap();
+    resolver.copy_in(memory).unwrap();
+    // more bindings, and then more text in no more of them
+    for (count, length) in [(5, 1), (1, 100)] {
+        let mut bytes = Aligned::<1_024>::zeros();
+        let memory = Lent::from_bytes(&mut bytes.0).unwrap();
+        let mut before = NamespaceResolver::new_in(memory);
+        for _ in 0..count {
+            let value = "u".repeat(length);
+            let named = PrefixDeclaration::Named("before");
+            before.add(named, Namespace(&value)).unwrap();
+        }
+        let copy = resolver.copy_in(before.into_memory()).unwrap();
+        assert_eq!(format!("{copy:?}"), format!("{resolver:?}"));
+        let memory = copy.into_memory();
+        let resumed = NamespaceResolver::resume_in(memory).unwrap();
+        let found = resumed.resolve_element(QName("p:a")).0;
+        assert_eq!(found, ResolveResult::Bound(Namespace("urn:p")));
+        assert!(bytes.0 == fresh.0, "{count} bindings were there");
+    }
+}
+
 /// What `used` gives in memory of so much room, which it says is too little or enough.
 fn used_within<const T: usize, const B: usize>() -> (String, bool) {
     let mut memory = Memory::<T, B>::zeros();

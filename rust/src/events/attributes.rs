@@ -373,8 +373,9 @@ fn refused(number: usize, a: usize, b: usize) -> AttrError {
 /// The attributes of a tag, and what is wrong in it, in the order in which they stand.
 ///
 /// The memory for the keys of 32 attributes is inside, less than 1 KB in all, which stands on the stack once for each
-/// open tag where a program goes from tag to tag by recursion; a tag with more keys gets its places on the heap. It can be lent instead ([`with_tables`](Attributes::with_tables)): no tag allocates then, and
-/// the iterator is small and is moved at no cost.
+/// open tag where a program goes from tag to tag by recursion; a tag with more keys gets its places on the heap. It can be
+/// lent instead ([`with_tables`](Attributes::with_tables)): no tag allocates then, and the iterator is small and is moved
+/// at no cost.
 #[derive(Clone)]
 pub struct Attributes<'a, T = Inside> {
     buf: &'a str,
