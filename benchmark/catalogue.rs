@@ -239,7 +239,7 @@ fn main() -> ExitCode {
         ["--check"] => true,
         _ => {
             eprintln!("usage: catalogue [--check]");
-            return ExitCode::FAILURE;
+            return ExitCode::from(2);
         }
     };
     let tags = catalogue();

@@ -271,7 +271,7 @@ fn main() -> ExitCode {
     let known = |argument: &String| argument == "--check" || argument == "--markdown";
     if !arguments.iter().all(known) {
         eprintln!("usage: iterator [--check] [--markdown], or iterator --plot");
-        return ExitCode::FAILURE;
+        return ExitCode::from(2);
     }
     let asked = |option: &str| arguments.iter().any(|argument| argument == option);
     let rows = match measure_all() {

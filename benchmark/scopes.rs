@@ -704,7 +704,7 @@ fn main() -> ExitCode {
     let known = |argument: &String| argument == "--check" || argument == "--markdown";
     if !arguments.iter().all(known) {
         eprintln!("usage: scopes [--check] [--markdown]");
-        return ExitCode::FAILURE;
+        return ExitCode::from(2);
     }
     let asked = |option: &str| arguments.iter().any(|argument| argument == option);
     let rows = match measure_all() {

@@ -562,13 +562,21 @@ mod drawn {
         let seconds = std::env::args().nth(1).and_then(|word| word.parse().ok());
         let Some(seconds) = seconds.map(Duration::from_secs) else {
             eprintln!("usage: fuzz SECONDS");
-            return ExitCode::FAILURE;
+            return ExitCode::from(2);
         };
         let words: Vec<_> = WORDS.lines().filter_map(word).collect();
         let mut drawn = Drawn(Lcg::new(11));
         let mut runs = 0;
         let start = Instant::now();
+        // every ten seconds, or ten times
+        let step = (seconds.as_secs() / 10).clamp(1, 10);
+        let mut next = step;
         while start.elapsed() < seconds {
+            let now = start.elapsed().as_secs();
+            if now >= next {
+                eprintln!("fuzz: {now} of {} s: {runs} inputs", seconds.as_secs());
+                next = now + step;
+            }
             if !super::holds(&drawn.input(&words)) {
                 return ExitCode::FAILURE;
             }

@@ -247,6 +247,7 @@ fn all((every_up_to, values_up_to, drawn_ones): Extent, tally: &mut Tally) -> Re
         tally.names
     );
     let mut lcg = Lcg::new(SEED);
+    eprintln!("names: {drawn_ones} drawn ones follow");
     for _ in 0..drawn_ones {
         compare(&drawn(&mut lcg), tally)?;
         compare_value(&drawn_value(&mut lcg), tally)?;
@@ -261,7 +262,7 @@ fn main() -> ExitCode {
         [short] if short == "--short" => SHORT,
         _ => {
             eprintln!("usage: names [--short]");
-            return ExitCode::FAILURE;
+            return ExitCode::from(2);
         }
     };
     let mut tally = Tally::default();

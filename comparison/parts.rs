@@ -2,6 +2,7 @@
 //! first difference.
 
 use std::process::ExitCode;
+use std::time::Instant;
 
 /// What a part counts.
 pub trait Counts: Default {
@@ -17,7 +18,7 @@ pub trait Counts: Default {
 pub type Part<E, C> = fn(&E, &mut C) -> Result<(), String>;
 
 /// Runs the parts to the extent that the arguments ask for: bounded, short, or the whole. A part that
-/// `left_out` names is passed over.
+/// `left_out` names is passed over. Where each begins is said on standard error, with the seconds so far.
 pub fn run<E, C: Counts>(
     name: &str,
     [bounded, short, whole]: [E; 3],
@@ -31,14 +32,22 @@ pub fn run<E, C: Counts>(
         [word] if word == "--whole" => whole,
         _ => {
             eprintln!("usage: {name} [--short | --whole]");
-            return ExitCode::FAILURE;
+            return ExitCode::from(2);
         }
     };
     let mut all = C::default();
-    for (what, part) in parts {
-        if left_out(&extent, what) {
-            continue;
-        }
+    let start = Instant::now();
+    let due: Vec<_> = parts
+        .iter()
+        .filter(|(what, _)| !left_out(&extent, what))
+        .collect();
+    for (turn, (what, part)) in due.iter().enumerate() {
+        let seconds = start.elapsed().as_secs();
+        eprintln!(
+            "{name}: {seconds} s: part {} of {}: {what}",
+            turn + 1,
+            due.len()
+        );
         let mut counts = C::default();
         if let Err(difference) = part(&extent, &mut counts) {
             let reached = counts.reached();

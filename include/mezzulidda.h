@@ -212,7 +212,8 @@ size_t mz_resolve_all(MZ_RESOLVER(MZ_READ), const uint8_t *tag, size_t tag_len,
 
 /* The first binding shown from a place on, 0 at first: 0 the end; 1 a default, 2 a named one, with the
  * bounds of prefix and value in the text. detail[4] is the place to go on from: behind the binding that
- * is shown, and the place that was asked at the end and with a refusal, where the four bounds are 0. mz_binding shows those that hold, mz_binding_of those of a level. */
+ * is shown, and the place that was asked at the end and with a refusal, where the four bounds are 0.
+ * mz_binding shows those that hold, mz_binding_of those of a level. */
 size_t mz_binding(MZ_RESOLVER(MZ_READ), size_t place, size_t *detail);
 size_t mz_binding_of(MZ_RESOLVER(MZ_READ), uint16_t level, size_t place, size_t *detail);
 

@@ -80,10 +80,21 @@ holds() {
     return 1
 }
 
-# One of the comparisons with the crate, in its bounded part: its last line counts.
+# A wrong use of a program has the status that it has everywhere.
+misuse() {
+    local status=0
+    "$1" --nope > "$work/out" 2>&1 < /dev/null || status=$?
+    [ "$status" -eq 2 ] || say "'$(basename "$1") --nope' has status $status, not 2"
+}
+
+# One of the comparisons with the crate, in its bounded part: its last line counts. It says where it is on the way.
 compare() {
     need_source
     need_library
-    holds "the comparison of $1" "$root/comparison/run" --source "$source_dir" "$library" "$1" && tail -n 1 "$work/out"
+    if holds "the comparison of $1" "$root/comparison/run" --source "$source_dir" "$library" "$1"; then
+        tail -n 1 "$work/out"
+        misuse "$root/target/compare/$1"
+        grep -qE "^$1: .*(part 1 of [0-9]+: | agrees, )" "$work/err" || say 'it does not say where it is'
+    fi
     end
 }

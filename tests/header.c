@@ -24,7 +24,7 @@ static void hold(const char *what, bool holds) {
 /* ---- Memory ---- */
 
 /* What was allocated, to be freed at the end. */
-static void *blocks[4000];
+static void *blocks[8000];
 static size_t block_count = 0;
 
 /* So many bytes, none of which is zero. */
@@ -499,6 +499,57 @@ static void short_memory(void) {
     hold("mz_add: in memory that does", mz_set_level(MZ_PASS(*r), 0) == 0 && mz_add(MZ_PASS(*r), true, BYTES("z"), BYTES("z"), d) == 0);
 }
 
+/* ---- Positions far behind ---- */
+
+/* One position that no tag and no resolver has: at the end of the range, or where a number has another sign or another
+ * width. What is read there is the end, what is skipped from there is no state, and bounds there are those of an empty name. */
+static void far(struct mz_resolver *r, size_t position) {
+    const char *tag = "a='1' xmlns:q='u'";
+    struct reader it = opened(2, MZ_NEXT, position);
+    size_t *out = numbers(MZ_ANSWER), *d = numbers(MZ_DETAIL), *listed = numbers(MZ_LISTED), kind, begin, end;
+    hold("far: mz_read_batch", mz_read_batch(BYTES(tag), KEYS(it), false, true, out, MZ_ANSWER) == 0 &&
+                                   is_at(it, MZ_NEXT, position, 0, MZ_END) && are_untouched(out, MZ_ANSWER));
+    hold("far: mz_has_nil", mz_has_nil(MZ_PASS(*r), BYTES(tag), KEYS(it), true, true) == 0 &&
+                                is_at(it, MZ_NEXT, position, 0, MZ_END));
+    for (size_t skip = MZ_SKIP_VALUE; skip <= MZ_SKIP_FROM_EQ; skip++) {
+        it = opened(2, skip, position);
+        hold("far: a place to skip from", mz_read_batch(BYTES(tag), KEYS(it), true, true, out, MZ_ANSWER) == 1 &&
+                                              is_answer(out, MZ_BAD_STATE, 0, 0, 0, 0) && is_at(it, MZ_DONE, 0, 0, MZ_OUT_FULL));
+    }
+    for (size_t bound = 0; bound < 3; bound++) {
+        it = opened(2, MZ_NEXT, 5);
+        it.state[2] = 1;
+        it.starts[0] = bound == 0 ? 0 : position;
+        it.ends[0] = bound == 1 ? position + 1 : position;
+        hold("far: a recorded key", mz_read_batch(BYTES(tag), KEYS(it), false, true, out, MZ_ANSWER) == 1 &&
+                                        is_answer(out, MZ_BAD_STATE, 0, 0, 0, 0) && it.starts[0] == 0 && it.ends[1] == 0);
+    }
+    it = opened(2, MZ_NEXT, 0);
+    it.state[2] = position;
+    hold("far: so many recorded keys", mz_read_batch(BYTES(tag), KEYS(it), false, true, out, MZ_ANSWER) == 1 &&
+                                           is_answer(out, MZ_BAD_STATE, 0, 0, 0, 0) && is_at(it, MZ_DONE, 0, 0, MZ_OUT_FULL));
+    hold("far: mz_push", mz_push(MZ_PASS(*r), BYTES(tag), position, d) == 0 && is_told(d, 0, 0) &&
+                             is_head(r, MZ_FRESH_TEXT + 2, 3, 1, 128) && mz_pop(MZ_PASS(*r)) == 0);
+    hold("far: mz_binding", mz_binding(MZ_PASS(*r), position, listed) == 0 && listed[3] == 0 && listed[4] == position);
+    hold("far: mz_binding_of", mz_binding_of(MZ_PASS(*r), 0, position, listed) == 0 && listed[3] == 0 && listed[4] == position);
+    for (size_t bound = 0; bound < 3; bound++) {
+        size_t from = bound == 0 ? 6 : position, to = bound == 1 ? position + 3 : position;
+        hold("far: mz_resolve_all", mz_resolve_all(MZ_PASS(*r), BYTES(tag), &from, 1, &to, 1, 0, &kind, 1, &begin, 1, &end, 1) == 0 &&
+                                        kind == 0 && begin == 0 && end == 0);
+    }
+}
+
+static void far_behind(void) {
+    struct mz_resolver *r = fresh(MZ_FRESH_TEXT + 2, MZ_FRESH_RECORDS + MZ_RECORD);
+    size_t *d = numbers(MZ_DETAIL);
+    hold("mz_add: before what is far", mz_add(MZ_PASS(*r), true, BYTES("p"), BYTES("u"), d) == 0);
+    for (size_t back = 0; back < 20; back++) {
+        far(r, SIZE_MAX - back);
+        far(r, SIZE_MAX / 2 + back);
+        far(r, ((size_t)1 << 32) + back);
+    }
+}
+
 /* ---- Nothing at all ---- */
 
 /* A slice of length 0 by a pointer that no access may go through. */
@@ -556,6 +607,7 @@ int main(void) {
     scopes();
     wrong_lengths();
     short_memory();
+    far_behind();
     empty_and_null();
     while (block_count > 0) {
         free(blocks[--block_count]);

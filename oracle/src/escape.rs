@@ -1,5 +1,5 @@
 //! Stands for the crate's `escape` module, which is not given: the signatures that the given files
-//! need. Nothing that the oracle offers reaches a body.
+//! need. Nothing that is compared reaches a body; a program for both crates is run on the five entities.
 
 use std::borrow::Cow;
 use std::fmt;
@@ -13,11 +13,15 @@ pub enum ParseCharRefError {}
 #[derive(Clone, Debug, PartialEq)]
 pub enum EscapeError {
     InvalidCharRef(ParseCharRefError),
+    UnrecognizedEntity(String),
 }
 
 impl fmt::Display for EscapeError {
-    fn fmt(&self, _: &mut fmt::Formatter) -> fmt::Result {
-        unreachable!("{NOT_HERE}")
+    fn fmt(&self, f: &mut fmt::Formatter) -> fmt::Result {
+        match self {
+            Self::InvalidCharRef(error) => match *error {},
+            Self::UnrecognizedEntity(text) => write!(f, "no entity is known at `{text}`"),
+        }
     }
 }
 
@@ -51,6 +55,13 @@ pub fn parse_number(_digits: &str) -> Result<char, ParseCharRefError> {
     unreachable!("{NOT_HERE}")
 }
 
-pub fn resolve_predefined_entity(_entity: &str) -> Option<&'static str> {
-    unreachable!("{NOT_HERE}")
+pub fn resolve_predefined_entity(entity: &str) -> Option<&'static str> {
+    Some(match entity {
+        "lt" => "<",
+        "gt" => ">",
+        "amp" => "&",
+        "apos" => "'",
+        "quot" => "\"",
+        _ => return None,
+    })
 }

@@ -5,8 +5,9 @@
 //! `encoding`, `errors`, `events`, `events/attributes`, `name` and `utils` are the crate's files; at
 //! the end of two of them `build` appends one `mod` line, so that `steps` and `scopes`, which are
 //! ours, stand inside the modules whose private parts they show. What they lean on and is not given
-//! (`escape`, `memchr`, and `XmlVersion`'s method, which calls `escape`) has the crate's signature
-//! and a body that is never reached.
+//! (`escape`, `memchr`) has the crate's signature and a body that is never reached. Two more stand for
+//! what is not given, so that a program for both crates can be run: a reader, and the part of
+//! normalisation that is named entities and whitespace.
 
 #![forbid(unsafe_code)]
 // The crate's files come with parts that nothing here calls.
@@ -20,15 +21,18 @@ mod errors;
 mod escape;
 pub mod events;
 pub mod name;
+pub mod reader;
 pub mod text;
 mod utils;
 
+pub use errors::{Error, Result};
 pub use events::BytesStart;
 pub use events::attributes::steps;
 pub use name::scopes;
 pub use name::{
     Namespace, NamespaceError, NamespaceResolver, Prefix, PrefixDeclaration, QName, ResolveResult,
 };
+pub use reader::Reader;
 pub use utils::is_whitespace;
 
 use std::borrow::Cow;
@@ -42,16 +46,31 @@ pub enum XmlVersion {
 }
 
 impl XmlVersion {
+    /// Whitespace is blanks, and each named entity is what it stands for; character references and entities
+    /// in entities are left out.
     pub(crate) fn normalize_attribute_value<'input, 'entity, F>(
         &self,
-        _value: &'input str,
+        value: &'input str,
         _depth: usize,
-        _resolve_entity: F,
-    ) -> Result<Cow<'input, str>, escape::EscapeError>
+        mut resolve_entity: F,
+    ) -> std::result::Result<Cow<'input, str>, escape::EscapeError>
     where
         F: FnMut(&str) -> Option<&'entity str>,
     {
-        unreachable!("normalisation is not part of the oracle")
+        if !value.contains(['&', '\t', '\r', '\n']) {
+            return Ok(Cow::Borrowed(value));
+        }
+        let mut normal = String::new();
+        let mut rest = value;
+        while let Some(at) = rest.find('&') {
+            let unknown = || escape::EscapeError::UnrecognizedEntity(rest[at..].to_string());
+            let (name, after) = rest[at + 1..].split_once(';').ok_or_else(unknown)?;
+            normal.push_str(&rest[..at].replace(['\t', '\r', '\n'], " "));
+            normal.push_str(resolve_entity(name).ok_or_else(unknown)?);
+            rest = after;
+        }
+        normal.push_str(&rest.replace(['\t', '\r', '\n'], " "));
+        Ok(Cow::Owned(normal))
     }
 }
 

@@ -1,9 +1,10 @@
-//! Writes the oracle's answers about fixed lists of names, tags and calls on a resolver, as text for
-//! people and as bytes for a program that knows no strings. The two forms hold the same cases in the
+//! Writes the oracle's answers about fixed lists of names, tags, calls on a resolver and questions, as text
+//! for people and as bytes for a program that knows no strings. The two forms hold the same cases in the
 //! same order.
 //!
-//! Usage: `record names|tags|scopes text|bytes`.
+//! Usage: `record names|tags|scopes|asked text|bytes`.
 
+mod asked;
 mod calls;
 mod cases;
 mod declarations;
@@ -31,7 +32,12 @@ fn main() -> ExitCode {
         ["tags", "bytes"] => Ok(tags().iter().flat_map(tag_bytes).collect()),
         ["scopes", "text"] => calls::text().map(String::into_bytes),
         ["scopes", "bytes"] => calls::bytes(two),
-        _ => Err("usage: record names|tags|scopes text|bytes".to_string()),
+        ["asked", "text"] => asked::text().map(String::into_bytes),
+        ["asked", "bytes"] => asked::bytes(two),
+        _ => {
+            eprintln!("usage: record names|tags|scopes|asked text|bytes");
+            return ExitCode::from(2);
+        }
     };
     let done = written.and_then(|bytes| {
         let mut out = std::io::stdout();

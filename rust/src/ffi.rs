@@ -6,9 +6,13 @@
 
 use crate::LentError;
 use crate::library;
-use crate::memory::{Lent, View};
-use std::mem::MaybeUninit;
-use std::sync::atomic::{AtomicBool, Ordering};
+use crate::memory::{Lent, Memory, View};
+use alloc::boxed::Box;
+use alloc::format;
+use alloc::string::String;
+use alloc::vec::Vec;
+use core::mem::MaybeUninit;
+use core::sync::atomic::{AtomicBool, Ordering};
 
 /// How many keys of a tag can be recorded, for how many there are places inside an iterator, and how many
 /// answers are read ahead.
@@ -106,7 +110,7 @@ fn differences(says: impl Fn(usize) -> usize) -> String {
 
 /// The index of the first colon, or the length where there is none.
 #[inline]
-pub fn split(name: &str) -> usize {
+pub fn split(name: &[u8]) -> usize {
     // SAFETY: pointer and length are those of one live slice, which the call only reads.
     unsafe { library::mz_split(name.as_ptr(), name.len()) }
 }
@@ -116,18 +120,6 @@ pub fn split(name: &str) -> usize {
 pub fn declares(name: &str) -> usize {
     // SAFETY: as for `mz_split`.
     unsafe { library::mz_declares(name.as_ptr(), name.len()) }
-}
-
-#[inline]
-pub fn is_xml(prefix: &str) -> bool {
-    // SAFETY: as for `mz_split`.
-    unsafe { library::mz_is_xml(prefix.as_ptr(), prefix.len()) != 0 }
-}
-
-#[inline]
-pub fn is_xmlns(prefix: &str) -> bool {
-    // SAFETY: as for `mz_split`.
-    unsafe { library::mz_is_xmlns(prefix.as_ptr(), prefix.len()) != 0 }
 }
 
 /// 0 no, 1 yes, 2 it declares nothing.
@@ -147,7 +139,7 @@ pub fn as_bool(value: &str) -> usize {
 /// no other is looked at.
 #[derive(Clone)]
 pub struct Ahead {
-    /// The state, and the one before the answers in `out`.
+    /// The state, and the one before the answers in `out`, where there are any.
     state: State,
     before: State,
     filled: usize,
@@ -331,7 +323,7 @@ impl Reads for Inside {
 /// Memory of the caller's own in which tags are read, one after another: the places of all keys that can be
 /// recorded, the place of reading, and the answers that were read ahead. Nothing is allocated for any tag.
 ///
-/// 4.5 KB, and not cleared: opening a tag costs the same whatever was read before.
+/// [`SIZE`](Self::SIZE) bytes, 4.5 KB, and not cleared: opening a tag costs the same whatever was read before.
 #[derive(Clone)]
 pub struct Tables {
     pub(crate) ahead: Ahead,
@@ -391,10 +383,13 @@ impl Tables {
     #[inline]
     pub(crate) const fn open(&mut self, pos: usize) {
         self.ahead.state = [1, pos, 0, 0];
-        self.ahead.before = self.ahead.state;
         self.ahead.filled = 0;
     }
 }
+
+// Bytes that are lent for tables are as many as tables are, and stand where they can.
+const _: () =
+    assert!(Tables::SIZE == size_of::<Tables>() && Tables::ALIGNMENT == align_of::<Tables>());
 
 impl Reads for &mut Tables {
     #[inline]
@@ -424,6 +419,12 @@ pub fn numbers_in(bytes: &mut [u8]) -> Option<&mut [usize]> {
     // SAFETY: any bytes are a number, and whatever is written to one leaves bytes.
     let (before, numbers, _) = unsafe { bytes.align_to_mut() };
     before.is_empty().then_some(numbers)
+}
+
+/// Memory for a resolver on the heap, with no resolver in it yet.
+pub fn zeros<const TEXT: usize, const BINDINGS: usize>() -> Box<Memory<TEXT, BINDINGS>> {
+    // SAFETY: it is arrays of numbers, and zeros are numbers.
+    unsafe { Box::new_zeroed().assume_init() }
 }
 
 // One call of the library on a resolver's memory: by `as_mut_ptr` where it changes it, by `as_ptr` where it
@@ -458,7 +459,7 @@ impl Lent<'_> {
 
     /// 0, or a refusal with its numbers; bounds are those in the prefix or the value.
     #[inline]
-    pub(crate) fn add(&mut self, prefix: Option<&str>, value: &str) -> (usize, Detail) {
+    pub(crate) fn add(&mut self, prefix: Option<&[u8]>, value: &[u8]) -> (usize, Detail) {
         let mut detail: Detail = [0; 2];
         let named = prefix.is_some();
         let prefix = prefix.unwrap_or_default();
@@ -477,7 +478,7 @@ impl Lent<'_> {
 
     /// 0, or a refusal with its numbers; bounds are those in the tag.
     #[inline]
-    pub(crate) fn push(&mut self, tag: &str, at: usize) -> (usize, Detail) {
+    pub(crate) fn push(&mut self, tag: &[u8], at: usize) -> (usize, Detail) {
         let mut detail: Detail = [0; 2];
         let to = detail.as_mut_ptr();
         let answer = call!(mz_push, self.as_mut_ptr(), tag.as_ptr(), tag.len(), at, to);
@@ -505,7 +506,7 @@ impl View<'_> {
 
     /// 0 unbound, 1 bound, with the URI's bounds in the text, 2 unknown, with the prefix's in the name.
     #[inline]
-    pub(crate) fn resolve(self, name: &str, use_default: bool) -> (usize, Detail) {
+    pub(crate) fn resolve(self, name: &[u8], use_default: bool) -> (usize, Detail) {
         let mut detail: Detail = [0; 2];
         let to = detail.as_mut_ptr();
         let answer = call!(
@@ -636,7 +637,9 @@ impl Answers {
 
 #[cfg(test)]
 mod tests {
-    use super::{LAYOUT, differences, library};
+    use super::{LAYOUT, String, Vec, differences, format, library};
+    use crate::name::QName;
+    use alloc::vec;
 
     #[test]
     fn another_layout_is_named_with_both_numbers() {
@@ -649,5 +652,38 @@ mod tests {
         }
         // a library that knows of none of them
         assert_eq!(differences(|_| 0).matches(": 0 in the library").count(), 11);
+    }
+
+    #[test]
+    fn the_reserved_prefixes_are_the_librarys() {
+        // every text of up to six of the letters that the two have
+        let mut prefixes = vec![String::new()];
+        for from in 0.. {
+            match prefixes.get(from) {
+                Some(prefix) if prefix.len() < 6 => {
+                    let longer = "xmlns".chars().map(|last| format!("{prefix}{last}"));
+                    prefixes.extend(longer.collect::<Vec<_>>());
+                }
+                _ => break,
+            }
+        }
+        let mut found = Vec::new();
+        for prefix in prefixes {
+            let (at, length) = (prefix.as_ptr(), prefix.len());
+            // SAFETY: as for `mz_split`.
+            let theirs = unsafe {
+                [
+                    library::mz_is_xml(at, length) != 0,
+                    library::mz_is_xmlns(at, length) != 0,
+                ]
+            };
+            let name = format!("{prefix}:");
+            let ours = QName(&name).prefix().unwrap();
+            assert_eq!([ours.is_xml(), ours.is_xmlns()], theirs, "{prefix}");
+            if theirs != [false; 2] {
+                found.push(prefix);
+            }
+        }
+        assert_eq!(found, ["xml", "xmlns"]);
     }
 }

@@ -1,8 +1,8 @@
 //! Memory of the caller's own: what is wrong with memory that can't be used as it is.
 
 use crate::memory::Room;
-use std::error::Error;
-use std::fmt::{self, Display, Formatter};
+use core::error::Error;
+use core::fmt::{self, Display, Formatter};
 
 /// Why memory that is lent can't be used. Nothing of it was written.
 #[derive(Clone, Copy, Debug, PartialEq, Eq)]

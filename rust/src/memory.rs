@@ -2,7 +2,10 @@
 
 use crate::LentError;
 use crate::ffi::{self, Head, RECORDS, Record, TEXT};
-use std::fmt::{self, Debug, Display, Formatter};
+use alloc::boxed::Box;
+use alloc::vec;
+use alloc::vec::Vec;
+use core::fmt::{self, Debug, Display, Formatter};
 
 /// The numbers of a record, and of a head.
 const RECORD: usize = size_of::<Record>() / size_of::<usize>();
@@ -53,7 +56,8 @@ impl Display for Room {
 }
 
 /// Memory of a fixed size for a resolver, for a static or for the stack: so many bytes of text, and so many
-/// bindings, the two built-in ones among them. Without numbers it is as large as can be used, 96 KB.
+/// bindings, the two built-in ones among them. Without numbers it is as large as can be used, 98,400 bytes: more
+/// than a thread with a small stack can have there, and [`boxed`](Self::boxed) then has it on the heap.
 ///
 /// A call on a resolver looks at all of its memory, so that a small one makes it fast.
 ///
@@ -91,29 +95,45 @@ impl Memory {
 }
 
 impl<const TEXT: usize, const BINDINGS: usize> Memory<TEXT, BINDINGS> {
-    const ROOM: Room = Room {
-        text: TEXT,
-        bindings: BINDINGS,
+    const ROOM: Room = {
+        let room = Room {
+            text: TEXT,
+            bindings: BINDINGS,
+        };
+        assert!(
+            room.holds(Room::LEAST),
+            "a resolver needs 73 bytes of text and two bindings"
+        );
+        assert!(
+            Room::MOST.holds(room),
+            "a resolver can't use more than 65,536 bytes of text and 1,026 bindings"
+        );
+        room
     };
 
     /// Memory with no resolver in it yet.
     #[inline]
     pub const fn zeros() -> Self {
-        const {
-            assert!(
-                Self::ROOM.holds(Room::LEAST),
-                "a resolver needs 73 bytes of text and two bindings"
-            );
-            assert!(
-                Room::MOST.holds(Self::ROOM),
-                "a resolver can't use more than 65,536 bytes of text and 1,026 bindings"
-            );
-        }
+        const { Self::ROOM };
         Memory {
             head: [0; HEAD],
             records: [[0; RECORD]; BINDINGS],
             text: [0; TEXT],
         }
+    }
+
+    /// The same on the heap, with nothing of it on the stack on the way there.
+    ///
+    /// ```
+    /// use mezzulidda::name::{Memory, NamespaceResolver};
+    ///
+    /// let mut memory: Box<Memory> = Memory::boxed();
+    /// let resolver = NamespaceResolver::new_in(&mut *memory);
+    /// assert_eq!(resolver.level(), 0);
+    /// ```
+    pub fn boxed() -> Box<Self> {
+        const { Self::ROOM };
+        ffi::zeros()
     }
 }
 
@@ -168,6 +188,7 @@ impl<'m> Lent<'m> {
     /// assert_eq!(resolver.level(), 0);
     /// # Ok::<(), LentError>(())
     /// ```
+    #[expect(clippy::missing_panics_doc, reason = "length and address are tested")]
     pub fn from_bytes(bytes: &'m mut [u8]) -> Result<Self, LentError> {
         let given = bytes.len();
         let Some(more) = given.checked_sub(Self::LEAST) else {
@@ -394,14 +415,15 @@ impl<'m> View<'m> {
         str::from_utf8(&self.text[from..to]).expect("prefixes and namespaces are text")
     }
 
-    /// The first record whose prefix or namespace is no text, where there is a resolver in it.
-    pub(crate) fn without_text(self) -> Option<usize> {
+    /// The first record behind so many whose prefix or namespace is no text, where there is a resolver in it.
+    pub(crate) fn without_text(self, behind: usize) -> Option<usize> {
         let records = self.records.chunks_exact(RECORD).take(self.used().bindings);
-        records.into_iter().position(|record| {
+        let found = records.skip(behind).position(|record| {
             let (prefix, rest) = self.text[record[0]..].split_at(record[1]);
             let value = &rest[..record[2]];
             str::from_utf8(prefix).is_err() || str::from_utf8(value).is_err()
-        })
+        });
+        found.map(|index| behind + index)
     }
 
     pub(crate) const fn level(self) -> u16 {

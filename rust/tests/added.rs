@@ -1,13 +1,12 @@
-//! What quick-xml does not have: capacities and their refusals, memory that grows or is lent, and bytes.
+//! What quick-xml does not have: capacities and their refusals, and memory that grows or is lent.
 
 use mezzulidda::events::BytesStart;
-use mezzulidda::events::attributes::{
-    Attr, AttrError, Attribute, Attributes, ByteAttributes, Tables,
-};
+use mezzulidda::events::attributes::{AttrError, Attribute, Attributes, Tables};
 use mezzulidda::name::{
     Memory, Namespace, NamespaceError, NamespaceResolver, PrefixDeclaration, QName, ResolveResult,
     Room,
 };
+use std::borrow::Cow;
 use std::thread;
 
 fn keys(count: usize) -> String {
@@ -87,29 +86,31 @@ fn a_run_that_is_turned_off_and_on_at_any_place() {
 }
 
 #[test]
-fn bytes_that_are_no_text() {
-    let tag = b"\xfe id='\xff' \xfe=\"\" id=''";
-    let mut bytes = ByteAttributes::new(tag, 1);
+fn an_attribute_of_a_key_and_a_value() {
+    let each = Attribute::from(("k&", "<>&'\"<a b='é'>&amp;\t\n"));
     assert_eq!(
-        bytes.next(),
-        Some(Ok(Attr::SingleQ(&b"id"[..], &b"\xff"[..])))
+        (each.key, &*each.value),
+        (
+            QName("k&"),
+            "&lt;&gt;&amp;&apos;&quot;&lt;a b=&apos;é&apos;&gt;&amp;amp;\t\n"
+        )
     );
-    assert_eq!(
-        bytes.next(),
-        Some(Ok(Attr::DoubleQ(&b"\xfe"[..], &b""[..])))
-    );
-    assert_eq!(bytes.next(), Some(Err(AttrError::Duplicated(14, 2))));
-    assert_eq!(bytes.next(), None);
-    assert_eq!(ByteAttributes::new(tag, 1).with_checks(false).count(), 3);
-    assert_eq!(
-        ByteAttributes::html(b"a b=c", 0).collect::<Vec<_>>(),
-        [
-            Ok(Attr::Empty(&b"a"[..])),
-            Ok(Attr::Unquoted(&b"b"[..], &b"c"[..]))
-        ]
-    );
-    let mut tables = Tables::new();
-    assert_eq!(ByteAttributes::with_tables(tag, 1, &mut tables).count(), 3);
+    // what needs no escape is not copied
+    let plain = "c-17 größe\r;#";
+    let kept = Attribute::from(("k", plain));
+    assert!(matches!(kept.value, Cow::Borrowed(value) if std::ptr::eq(value, plain)));
+    let kept = Attribute::from(("k", Cow::Owned::<str>(plain.to_string())));
+    assert!(matches!(kept.value, Cow::Owned(value) if value == plain));
+    let written = Attribute::from(("k", Cow::Owned::<str>("a&b".to_string())));
+    assert_eq!(written.value, "a&amp;b");
+    // in quotes of either kind it is read as it was written
+    for quote in ['"', '\''] {
+        let tag = format!("chunk k={quote}{}{quote}", each.value);
+        assert_eq!(
+            Attributes::new(&tag, 5).next().unwrap().unwrap().value,
+            each.value
+        );
+    }
 }
 
 #[test]
@@ -305,12 +306,32 @@ fn read_within(levels: usize, content: &str) -> usize {
     read
 }
 
+/// The same where the loop has the iterator; a build without optimisation then takes more stack for each level.
+fn read_by_value(levels: usize, tag: &BytesStart) -> usize {
+    let mut read = 0;
+    for attribute in tag.attributes() {
+        read += attribute.unwrap().value.len();
+        if read == 1 && levels > 1 {
+            read += read_by_value(levels - 1, tag);
+        }
+    }
+    read
+}
+
+/// What is read in a thread with 2 MB of stack.
+fn in_2_mb(read: impl FnOnce() -> usize + Send + 'static) -> usize {
+    let reader = thread::Builder::new().stack_size(2 << 20).spawn(read);
+    reader.unwrap().join().unwrap()
+}
+
 #[test]
 fn an_iterator_for_each_of_1500_levels() {
-    let content = " a='1' b='22'".to_string();
-    let reader = thread::Builder::new().stack_size(2 << 20);
-    let read = reader.spawn(move || read_within(1_500, &content));
-    assert_eq!(read.unwrap().join().unwrap(), 3 * 1_500);
+    let read = in_2_mb(|| read_within(1_500, " a='1' b='22'"));
+    assert_eq!(read, 3 * 1_500);
+    let levels = if cfg!(debug_assertions) { 600 } else { 1_500 };
+    let tag = BytesStart::from_content("t a='1' b='22'", 1);
+    let read = in_2_mb(move || read_by_value(levels, &tag));
+    assert_eq!(read, 3 * levels);
 }
 
 #[test]

@@ -6,12 +6,13 @@
 
 use mezzulidda as xml;
 use std::borrow::Cow;
+use std::hash::{BuildHasher, BuildHasherDefault, DefaultHasher};
 use xml::events::BytesStart;
 use xml::events::attributes::{Attr, AttrError, Attribute, Attributes};
 use xml::name::{
     DEFAULT_MAX_NAMESPACE_BINDINGS, LocalName, Namespace, NamespaceBindingsIter,
-    NamespaceBindingsOfLevelIter, NamespaceError, NamespaceResolver, PrefixDeclaration, QName,
-    ResolveResult,
+    NamespaceBindingsOfLevelIter, NamespaceError, NamespaceResolver, Prefix, PrefixDeclaration,
+    QName, ResolveResult,
 };
 
 const XML: &str = "http://www.w3.org/XML/1998/namespace";
@@ -269,6 +270,14 @@ mod attributes {
                 (1, value.map(str::len))
             );
         }
+        assert_eq!(
+            format!("{:?} {:?}", Attr::DoubleQ("k", "v"), Attr::SingleQ(1, 2)),
+            "Attr::DoubleQ(\"k\", \"v\") Attr::SingleQ(1, 2)"
+        );
+        assert_eq!(
+            format!("{:?} {:#?}", Attr::Unquoted('k', 'v'), Attr::Empty("k")),
+            "Attr::Unquoted('k', 'v') Attr::Empty(\n    \"k\",\n)"
+        );
     }
 
     #[test]
@@ -364,6 +373,44 @@ mod attributes {
         assert_eq!(bare.borrow(), bare);
         assert_eq!(bare.clone().into_owned(), bare);
     }
+
+    #[test]
+    fn one_attribute_is_looked_for_without_checks() {
+        let start = tag("chunk id='c-17' id='c-18' offset='0' last");
+        let found = |name| start.try_get_attribute(name);
+        assert_eq!(found("id"), Ok(Some(attribute("id", "c-17"))));
+        assert_eq!(found("offset"), Ok(Some(attribute("offset", "0"))));
+        assert_eq!(found("size"), Err(AttrError::ExpectedEq(41)));
+    }
+
+    #[test]
+    fn one_attribute_is_looked_for_by_its_whole_name() {
+        let start = tag("chunk p:id='1' idx='2' id='3'");
+        for (name, value) in [("id", "3"), ("p:id", "1"), ("idx", "2")] {
+            let found = start.try_get_attribute(name);
+            assert_eq!(found, Ok(Some(attribute(name, value))));
+        }
+        for name in ["d", "i", "x", "p", ":id", "ID", ""] {
+            assert_eq!(start.try_get_attribute(name), Ok(None), "{name}");
+        }
+    }
+
+    #[test]
+    fn a_tag_is_a_text() {
+        fn kept() -> BytesStart<'static> {
+            let content = String::from("chunk id='c-17'");
+            BytesStart::from_content(&*content, 5).to_owned()
+        }
+        let start = kept();
+        let text: &str = start.as_ref();
+        assert_eq!(text, "chunk id='c-17'");
+        assert_eq!(start, tag(text));
+        assert_eq!(
+            format!("{start:?} {:#?}", start.borrow()),
+            "BytesStart { buf: Owned(\"chunk id='c-17'\"), name_len: 5 } \
+             BytesStart { buf: Borrowed(\"chunk id='c-17'\"), name_len: 5 }"
+        );
+    }
 }
 
 mod names {
@@ -420,8 +467,13 @@ mod names {
             (":a", false, false),
         ] {
             let prefix = QName(name).prefix().unwrap();
-            assert_eq!((prefix.is_xml(), prefix.is_xmlns()), (is_xml, is_xmlns));
+            assert_eq!(reserved(prefix), (is_xml, is_xmlns));
         }
+    }
+
+    /// In a constant function of a program's own.
+    const fn reserved(prefix: Prefix) -> (bool, bool) {
+        (prefix.is_xml(), prefix.is_xmlns())
     }
 
     #[test]
@@ -434,6 +486,9 @@ mod names {
         );
         assert_eq!(QName("a:x").prefix(), QName("a:y").prefix());
         assert_ne!(QName("a:x").prefix(), QName("b:x").prefix());
+        let hash = |name| BuildHasherDefault::<DefaultHasher>::new().hash_one(QName(name).prefix());
+        assert_eq!(hash("a:x"), hash("a:y"));
+        assert_ne!(hash("a:x"), hash("b:x"));
     }
 
     #[test]
@@ -774,6 +829,35 @@ mod scopes {
             assert_eq!(bindings.by_ref().collect::<Vec<_>>(), wanted);
             assert_eq!(bindings.next(), None);
         }
+    }
+
+    /// As many as each bound says are listed from each place on, at least and at most.
+    fn within_bounds<'a>(
+        mut bindings: impl Iterator<Item = (PrefixDeclaration<'a>, Namespace<'a>)> + Clone,
+    ) {
+        loop {
+            let (least, most) = bindings.size_hint();
+            let listed = bindings.clone().count();
+            assert!(least <= listed && most.is_none_or(|most| listed <= most));
+            if bindings.next().is_none() {
+                break;
+            }
+        }
+    }
+
+    #[test]
+    fn listings_say_how_many_they_may_list() {
+        let mut resolver = NamespaceResolver::default();
+        within_bounds(resolver.bindings());
+        within_bounds(resolver.bindings_of(0));
+        for content in ["a xmlns='1' xmlns:p='2'", "b xmlns='' xmlns:q='3'"] {
+            resolver.push(&tag(content)).unwrap();
+            within_bounds(resolver.bindings());
+            (0..4).for_each(|level| within_bounds(resolver.bindings_of(level)));
+        }
+        // the records behind the place: those of the built-in bindings are a level's alone
+        assert_eq!(resolver.bindings().size_hint(), (0, Some(4)));
+        assert_eq!(resolver.bindings_of(1).size_hint(), (0, Some(6)));
     }
 
     #[test]

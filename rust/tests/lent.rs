@@ -9,6 +9,7 @@ use mezzulidda::name::{
 };
 use std::mem::MaybeUninit;
 use std::sync::Mutex;
+use std::thread;
 
 /// Bytes at an address that is a multiple of 8.
 #[repr(align(8))]
@@ -208,6 +209,34 @@ fn a_copy_and_a_resumed_one_are_the_same() {
         let given = Room::LEAST;
         let refused = resumed.copy_in(Lent::from_bytes(&mut bytes.0).unwrap());
         assert_eq!(refused.err(), Some(LentError::Room { wanted, given }));
+    }
+}
+
+#[test]
+fn a_copy_leaves_nothing_of_what_was_there() {
+    let mut resolver = NamespaceResolver::default();
+    let tag = BytesStart::from_content("a xmlns:p='urn:p'", 1);
+    resolver.push(&tag).unwrap();
+    let mut fresh = Aligned::<1_024>::zeros();
+    let memory = Lent::from_bytes(&mut fresh.0).unwrap();
+    resolver.copy_in(memory).unwrap();
+    // more bindings, and then more text in no more of them
+    for (count, length) in [(5, 1), (1, 100)] {
+        let mut bytes = Aligned::<1_024>::zeros();
+        let memory = Lent::from_bytes(&mut bytes.0).unwrap();
+        let mut before = NamespaceResolver::new_in(memory);
+        for _ in 0..count {
+            let value = "u".repeat(length);
+            let named = PrefixDeclaration::Named("before");
+            before.add(named, Namespace(&value)).unwrap();
+        }
+        let copy = resolver.copy_in(before.into_memory()).unwrap();
+        assert_eq!(format!("{copy:?}"), format!("{resolver:?}"));
+        let memory = copy.into_memory();
+        let resumed = NamespaceResolver::resume_in(memory).unwrap();
+        let found = resumed.resolve_element(QName("p:a")).0;
+        assert_eq!(found, ResolveResult::Bound(Namespace("urn:p")));
+        assert!(bytes.0 == fresh.0, "{count} bindings were there");
     }
 }
 
@@ -478,6 +507,53 @@ fn a_resolver_whose_binding_is_no_text() {
 }
 
 #[test]
+fn a_prefix_or_a_namespace_alone_is_no_text() {
+    let mut bytes = Aligned::<2_000>::zeros();
+    let memory = Lent::from_bytes(&mut bytes.0).unwrap();
+    let text = 32 + 32 * memory.room().bindings;
+    let mut resolver = NamespaceResolver::new_in(memory);
+    for (prefix, value) in [("p", "u"), ("q", "v")] {
+        resolver
+            .add(PrefixDeclaration::Named(prefix), Namespace(value))
+            .unwrap();
+    }
+    // behind the 73 bytes of the built-in bindings stand `puqv`
+    for (at, binding) in [(73, 2), (74, 2), (75, 3), (76, 3)] {
+        let byte = std::mem::replace(&mut bytes.0[text + at], 0xff);
+        let memory = Lent::from_bytes(&mut bytes.0).unwrap();
+        assert_eq!(
+            NamespaceResolver::resume_in(memory).err(),
+            Some(LentError::NoText(binding)),
+            "byte {at}"
+        );
+        bytes.0[text + at] = byte;
+    }
+    let memory = Lent::from_bytes(&mut bytes.0).unwrap();
+    let resumed = NamespaceResolver::resume_in(memory).unwrap();
+    assert_eq!(resumed.bindings().count(), 2);
+}
+
+#[test]
+fn memory_on_the_heap_does_not_pass_the_stack() {
+    // half of what the memory has, and no program's own stack
+    let small = thread::Builder::new().stack_size(48 << 10);
+    let room = small.spawn(|| {
+        let mut memory = Memory::<TEXT, RECORDS>::boxed();
+        let mut resolver = NamespaceResolver::new_in(&mut *memory);
+        (resolver.room(), used(&mut resolver))
+    });
+    let (room, told) = room.unwrap().join().unwrap();
+    assert_eq!(room, Room::MOST);
+    assert_eq!(told, used(&mut NamespaceResolver::default()));
+    let mut memory = Memory::<73, 2>::boxed();
+    assert_eq!(
+        format!("{memory:?}"),
+        format!("{:?}", Memory::<73, 2>::zeros())
+    );
+    assert_eq!(NamespaceResolver::new_in(&mut *memory).room(), Room::LEAST);
+}
+
+#[test]
 fn tables_of_any_content() {
     let mut room = Box::new([MaybeUninit::new(0xff); Tables::SIZE + Tables::ALIGNMENT]);
     let from = room.as_ptr().align_offset(Tables::ALIGNMENT);
@@ -505,6 +581,30 @@ fn tables_of_any_content() {
             own
         );
     }
+}
+
+#[test]
+fn positions_far_behind() {
+    let tag = "t a='1' xmlns:p='u'";
+    let mut tables = Tables::new();
+    let mut resolver = NamespaceResolver::default();
+    for pos in (0..70)
+        .map(|back| usize::MAX - back)
+        .chain([1 << 63, 1 << 32, 20])
+    {
+        assert_eq!(Attributes::new(tag, pos).next(), None);
+        assert_eq!(Attributes::html(tag, pos).next(), None);
+        assert_eq!(Attributes::with_tables(tag, pos, &mut tables).next(), None);
+        assert_eq!(ByteAttributes::new(tag.as_bytes(), pos).next(), None);
+        assert!(!Attributes::new(tag, pos).has_nil(&resolver));
+        // a name as long as that can't be asked for, but its attributes can
+        let start = BytesStart::from_content(tag, pos);
+        assert_eq!(start.attributes().next(), None);
+        assert_eq!(start.try_get_attribute("a"), Ok(None));
+        assert_eq!(resolver.push(&start), Ok(()));
+        assert_eq!(resolver.bindings().count(), 0);
+    }
+    assert_eq!(resolver.level(), 73);
 }
 
 #[test]
@@ -551,24 +651,28 @@ fn all_names_of_a_tag() {
     resolver
         .push(&BytesStart::from_content(declared, 3))
         .unwrap();
-    let other = "w:elsewhere".to_string();
-    for count in [0, 1, 2, 14, 15, 16, 17, 31, 32, 33, 200] {
-        let names = ["k", "p:k", "q:k", "r:k", "xml:k", ":k", "xmlns:k", "p:"];
-        let content: String = (0..count)
-            .map(|n| format!(" {}{n}=''", names[n % 8]))
-            .collect();
-        let tag = BytesStart::from_content(format!("p:a{content}"), 3);
-        let mut keys: Vec<_> = tag.attributes().map(|a| a.unwrap().key).collect();
-        assert_eq!(keys.len(), count);
-        for outside in [None, Some(0), Some(count / 2), Some(count)] {
-            if let Some(at) = outside {
-                keys.insert(at, QName(&other));
+    // each with a prefix, and without: the default is for the tag's own name alone
+    let [others, owns] = [["w:elsewhere", "elsewhere"], ["p:a", "a"]];
+    for (own, other) in [(0, 0), (0, 1), (1, 0), (1, 1)] {
+        let (own, other) = (owns[own], others[other].to_string());
+        for count in [0, 1, 2, 14, 15, 16, 17, 31, 32, 33, 200] {
+            let names = ["k", "p:k", "q:k", "r:k", "xml:k", ":k", "xmlns:k", "p:"];
+            let content: String = (0..count)
+                .map(|n| format!(" {}{n}=''", names[n % 8]))
+                .collect();
+            let tag = BytesStart::from_content(format!("{own}{content}"), own.len());
+            let mut keys: Vec<_> = tag.attributes().map(|a| a.unwrap().key).collect();
+            assert_eq!(keys.len(), count);
+            for outside in [None, Some(0), Some(count / 2), Some(count)] {
+                if let Some(at) = outside {
+                    keys.insert(at, QName(&other));
+                }
+                let mut wanted = vec![resolver.resolve_element(tag.name())];
+                wanted.extend(keys.iter().map(|key| resolver.resolve_attribute(*key)));
+                let all = resolver.resolve_all(&tag, &keys);
+                assert_eq!(all.len(), wanted.len());
+                assert_eq!(all.collect::<Vec<_>>(), wanted);
             }
-            let mut wanted = vec![resolver.resolve_element(tag.name())];
-            wanted.extend(keys.iter().map(|key| resolver.resolve_attribute(*key)));
-            let all = resolver.resolve_all(&tag, &keys);
-            assert_eq!(all.len(), wanted.len());
-            assert_eq!(all.collect::<Vec<_>>(), wanted);
         }
     }
 }

@@ -16,7 +16,7 @@ use Rattle.tag_step.specs.Run.{runOf}
 use Rattle.tag_step.proofs.Good.{opened-sized}
 use Rattle.tag_batch.specs.declared.Batch.the-variants.{Read, WrongTables}
 use Rattle.tag_batch.specs.declared.Why.{Why}
-use Rattle.tag_batch.specs.Batch.{roomOf, batched, batchOf, leftOf}
+use Rattle.tag_batch.specs.Batch.{answersRoom, batched, batchOf, leftOf}
 use Rattle.lines.specs.Lines.{linesOf}
 use Rattle.lines.specs.declared.Paged.{Paged}
 use Rattle.lines.specs.Page.{pageLeft, linesBy, pageOf}
@@ -30,7 +30,7 @@ use Rattle.attrs.proofs.Written.{fresh, Shown, shown-none, page-next, s
 pub record Showing (s numbers text : List ℕ) (written shown : ℕ) (st : IterState) : Type 0 where
   pub stand : Stand s fresh shown st
   pub done : Shown s shown written
-  pub room : roomOf numbers ≡ 256
+  pub room : answersRoom numbers ≡ 256
   pub lines : 107 * 256 ≤ length text
   pub short : length s ≤ 65536
 

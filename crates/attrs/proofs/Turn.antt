@@ -6,15 +6,15 @@ use native.Mathlib.Omega.{arith}
 use lib.ListN.{length, length-append}
 use Rattle.tag_step.specs.declared.IterState.{IterState}
 use Rattle.tag_step.specs.Run.{runOf}
-use Rattle.tag_batch.specs.Batch.{roomOf}
+use Rattle.tag_batch.specs.Batch.{answersRoom}
 use Rattle.lines.proofs.Batches.{Stand, run-most, run-bound}
 
-pub room : (out first : List ℕ) → length out ≡ length first → roomOf first ≡ 256 → roomOf out ≡ 256
-unfolding roomOf
+pub room : (out first : List ℕ) → length out ≡ length first → answersRoom first ≡ 256 → answersRoom out ≡ 256
+unfolding answersRoom
 room out first e h = rw e h
 
-pub full : (s : List ℕ) (st : IterState) (out first : List ℕ) {n : ℕ} → length out ≡ length first → roomOf first ≡ 256 → n ≡ length (runOf (roomOf out) s st) → 256 ≤ n → length (runOf (roomOf out) s st) ≡ roomOf out
-full s st out first e h en le = omega (arith, run-most (roomOf out) s st, room out first e h)
+pub full : (s : List ℕ) (st : IterState) (out first : List ℕ) {n : ℕ} → length out ≡ length first → answersRoom first ≡ 256 → n ≡ length (runOf (answersRoom out) s st) → 256 ≤ n → length (runOf (answersRoom out) s st) ≡ answersRoom out
+full s st out first e h en le = omega (arith, run-most (answersRoom out) s st, room out first e h)
 
 -- the count stays within the length and one
 pub total-fits : (s : List ℕ) (first : IterState) (n : ℕ) (st : IterState) → Stand s first n st → (m : ℕ) → n + length (runOf m s st) ≤ suc (length s)

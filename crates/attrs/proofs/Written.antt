@@ -24,7 +24,7 @@ use Rattle.lines.specs.Lines.{decimalOf, lineOf, linesOf}
 use Rattle.lines.proofs.Text.{decimal-length, line-length}
 use Rattle.lines.proofs.Pages.{own-numbers}
 use Rattle.lines.proofs.Batches.{Stand, stand-last, run-most, run-full, run-short}
-use Rattle.attrs.specs.Count.{tagAnswers}
+use Rattle.attrs.specs.Count.{attrsAnswers}
 use Rattle.attrs.specs.Output.{countLine, outputOf, ComesNext, ToCount}
 
 -- Lines.
@@ -48,14 +48,14 @@ count-most : (n : ℕ) → length (countLine n) ≤ 29
 unfolding countLine bytes bytesFrom
 count-most n = omega (arith, length-append (decimalOf n) (10 ∷ []), decimal-length n)
 
-answers-most : (s : List ℕ) → length (tagAnswers s) ≤ suc (length s)
-unfolding tagAnswers answersOf
+answers-most : (s : List ℕ) → length (attrsAnswers s) ≤ suc (length s)
+unfolding attrsAnswers answersOf
 answers-most s = run-most (suc (length s)) s (opened 0 false true)
 
 output-most : (s : List ℕ) → length s ≤ 65536 → length (outputOf s) < 2 ^ 64
 unfolding outputOf
 output-most s short =
-    omega (arith, length-append (countLine (length (tagAnswers s))) (linesOf (tagAnswers s)), count-most (length (tagAnswers s)), lines-most (tagAnswers s), answers-most s)
+    omega (arith, length-append (countLine (length (attrsAnswers s))) (linesOf (attrsAnswers s)), count-most (length (attrsAnswers s)), lines-most (attrsAnswers s), answers-most s)
 
 -- a part between two others
 part-mid : (a x b : List ℕ) (n : ℕ) → n ≡ length a → part (a ++ (x ++ b)) n (n + length x) ≡ x
@@ -76,11 +76,11 @@ comes-next s before text after written short e w =
 -- Its three parts: the word, the digits, the line feed.
 module _ (s : List ℕ) (start total : ℕ) (to : ToCount s start total) where
   abbrev lines : List ℕ
-  lines = linesOf (tagAnswers s)
+  lines = linesOf (attrsAnswers s)
 
   output-word : outputOf s ≡ [] ++ (bytes "answers " ++ ((decimalOf total ++ bytes "\n") ++ lines))
   unfolding outputOf countLine
-  output-word = rw (to .all, append-assoc (bytes "answers ") (decimalOf (length (tagAnswers s)) ++ bytes "\n") lines)
+  output-word = rw (to .all, append-assoc (bytes "answers ") (decimalOf (length (attrsAnswers s)) ++ bytes "\n") lines)
 
   pub word-next : ComesNext s start (bytes "answers ")
   word-next = comes-next s [] (bytes "answers ") _ start (to .short) output-word (to .none)
@@ -121,22 +121,22 @@ fresh = opened 0 false true
 
 -- the count and the lines of the first n answers are written
 unfoldable pub Shown : List ℕ → ℕ → ℕ → Type 0
-Shown s n written = written ≡ length (countLine (length (tagAnswers s))) + length (linesOf (runOf n s fresh))
+Shown s n written = written ≡ length (countLine (length (attrsAnswers s))) + length (linesOf (runOf n s fresh))
 
-pub shown-none : (s : List ℕ) (written : ℕ) → written ≡ length (countLine (length (tagAnswers s))) → Shown s 0 written
+pub shown-none : (s : List ℕ) (written : ℕ) → written ≡ length (countLine (length (attrsAnswers s))) → Shown s 0 written
 unfolding Shown runOf linesOf
 shown-none s written e = omega arith
 
 module _ (s : List ℕ) (n : ℕ) (st : IterState) (a : Stand s fresh n st) (written : ℕ) (done : Shown s n written) (m : ℕ) where
   abbrev count : List ℕ
-  count = countLine (length (tagAnswers s))
+  count = countLine (length (attrsAnswers s))
 
   abbrev page : List ℕ
   page = linesOf (runOf m s st)
 
   -- all answers: those shown, those of the page, and what is left
-  answers-from : (rest : List Answer) × (tagAnswers s ≡ runOf n s fresh ++ (runOf m s st ++ rest))
-  unfolding tagAnswers
+  answers-from : (rest : List Answer) × (attrsAnswers s ≡ runOf n s fresh ++ (runOf m s st ++ rest))
+  unfolding attrsAnswers
   answers-from =
       let b = run-begins (suc (length s)) m s st in
       let e : suc (length s) + (n + m) ≡ n + (m + suc (length s)) = omega arith in
@@ -164,11 +164,11 @@ module _ (s : List ℕ) (n : ℕ) (st : IterState) (a : Stand s fresh n st) (wri
       omega (arith, length-append (linesOf (runOf n s fresh)) page)
 
   pub shown-all : length (runOf m s st) < m → written + length page ≡ length (outputOf s)
-  unfolding Shown outputOf tagAnswers
+  unfolding Shown outputOf attrsAnswers
   shown-all few =
-      let e : tagAnswers s ≡ runOf n s fresh ++ runOf m s st = stand-last s fresh n st a m few in
+      let e : attrsAnswers s ≡ runOf n s fresh ++ runOf m s st = stand-last s fresh n st a m few in
       let l = ap (λ (l : List Answer). length (linesOf l)) e ∙ ap length (lines-append (runOf n s fresh) (runOf m s st)) in
-      omega (arith, length-append (linesOf (runOf n s fresh)) page, length-append count (linesOf (tagAnswers s)))
+      omega (arith, length-append (linesOf (runOf n s fresh)) page, length-append count (linesOf (attrsAnswers s)))
 
 -- what stands at the front of the text
 pub front-is : (text page : List ℕ) {n : ℕ} → n ≡ length page → take n (over text 0 page) ≡ page

@@ -10,18 +10,18 @@ use Rattle.tag_step.specs.declared.Answer.{Answer}
 use Rattle.tag_step.specs.declared.IterState.{IterState}
 use Rattle.tag_step.specs.Next.{opened, lentState}
 use Rattle.tag_step.specs.Run.{answersOf}
-use Rattle.tag_batch.specs.Batch.{roomOf}
+use Rattle.tag_batch.specs.Batch.{answersRoom}
 
 -- the tables of an iterator, and an output with room for 256 answers
-pub record Lent (s e numbers : List ℕ) : Type 0 where
+pub record AttrsMemory (s e numbers : List ℕ) : Type 0 where
   pub starts : length s ≡ capacity
   pub ends : length e ≡ capacity
-  pub room : roomOf numbers ≡ 256
+  pub room : answersRoom numbers ≡ 256
 
 -- an iterator in XML mode with checks on, opened at 0 on those tables
-unfoldable pub openedOn : List ℕ → List ℕ → IterState
-openedOn starts ends = lentState (Next 0) false true starts ends 0
+unfoldable pub attrsOpened : List ℕ → List ℕ → IterState
+attrsOpened starts ends = lentState (Next 0) false true starts ends 0
 
 -- the answers to one tag, XML mode, checks on, from 0
-unfoldable pub tagAnswers : List ℕ → List Answer
-tagAnswers s = answersOf s (opened 0 false true)
+unfoldable pub attrsAnswers : List ℕ → List Answer
+attrsAnswers s = answersOf s (opened 0 false true)

@@ -7,7 +7,7 @@ use lib.ListN.{length, replicate}
 use Rattle.scan.specs.Bytes.{part, bytes}
 use Rattle.tag_keys.specs.Keys.{capacity}
 use Rattle.lines.specs.Lines.{decimalOf, linesOf}
-use Rattle.attrs.specs.Count.{Lent, tagAnswers}
+use Rattle.attrs.specs.Count.{AttrsMemory, attrsAnswers}
 
 -- "It prints the count": a line, as `answers 2`
 unfoldable pub countLine : ℕ → List ℕ
@@ -15,7 +15,7 @@ countLine n = bytes "answers " ++ (decimalOf n ++ bytes "\n")
 
 -- "then per answer" a line: all that is written for a tag
 unfoldable pub outputOf : List ℕ → List ℕ
-outputOf s = countLine (length (tagAnswers s)) ++ linesOf (tagAnswers s)
+outputOf s = countLine (length (attrsAnswers s)) ++ linesOf (attrsAnswers s)
 
 -- a text that comes next where the first `written` bytes of the output are written already
 pub record ComesNext (s : List ℕ) (written : ℕ) (text : List ℕ) : Type 0 where
@@ -26,16 +26,16 @@ pub record ComesNext (s : List ℕ) (written : ℕ) (text : List ℕ) : Type 0 w
 pub record ToCount (s : List ℕ) (written total : ℕ) : Type 0 where
   pub short : length s ≤ 65536
   pub none : written ≡ 0
-  pub all : total ≡ length (tagAnswers s)
+  pub all : total ≡ length (attrsAnswers s)
 
 -- the count is written, the lines are not
 pub record Counted (s : List ℕ) (written : ℕ) : Type 0 where
   pub short : length s ≤ 65536
-  pub count : written ≡ length (countLine (length (tagAnswers s)))
+  pub count : written ≡ length (countLine (length (attrsAnswers s)))
 
 -- the same with the tables of a fresh iterator, and room for a page of 256 answers, 107 bytes each
 pub record ToShow (s starts ends numbers text : List ℕ) (written : ℕ) : Type 0 where
-  pub lent : Lent starts ends numbers
+  pub lent : AttrsMemory starts ends numbers
   pub fresh : (starts ≡ replicate capacity 0) × (ends ≡ replicate capacity 0)
   pub room : 107 * 256 ≤ length text
   pub counted : Counted s written

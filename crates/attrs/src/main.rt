@@ -6,6 +6,7 @@
 //
 // At most 65,536 bytes are read; all of them are the tag, a line end too. The count comes first, so the tag is read twice,
 // 256 answers at a time: once to count them, once to show them.
+use lines::Mode;
 use tag_batch::Batch;
 use tag_keys::CAPACITY;
 use tag_step::Place;
@@ -13,7 +14,7 @@ ghost use mathlib.Core.Path.{_≡_};
 ghost use Prim.Native.Nat.{_+_, _≤_};
 ghost use lib.ListN.{length};
 ghost use Rattle.tag_step.specs.Run.{answersOf};
-ghost use Rattle.attrs.specs.Count.{Lent, openedOn, tagAnswers};
+ghost use Rattle.attrs.specs.Count.{AttrsMemory, attrsOpened, attrsAnswers};
 ghost use Rattle.attrs.specs.Output.{countLine, outputOf, ComesNext, ToCount, Counted, ToShow};
 
 // How many answers a batch holds, five numbers each, and the bytes that their lines have room in.
@@ -30,8 +31,8 @@ fn count_on<'a>(
     ends: &'a mut [usize],
     numbers: &mut [usize],
 ) -> usize
-    requires { ⌜ Lent (now starts) (now ends) (now numbers) ⌝ }
-    ensures { λ r. ⌜ r ≡ length (answersOf (now (tag .entry)) (openedOn (now (starts .entry)) (now (ends .entry)))) ⌝ }
+    requires { ⌜ AttrsMemory (now starts) (now ends) (now numbers) ⌝ }
+    ensures { λ r. ⌜ r ≡ length (answersOf (now (tag .entry)) (attrsOpened (now (starts .entry)) (now (ends .entry)))) ⌝ }
 {
     let mut place = Place::Next(0);
     let mut recorded = 0;
@@ -51,7 +52,7 @@ fn count_on<'a>(
 }
 
 fn count(tag: &[u8]) -> usize
-    ensures { λ r. ⌜ r ≡ length (tagAnswers (now (tag .entry))) ⌝ }
+    ensures { λ r. ⌜ r ≡ length (attrsAnswers (now (tag .entry))) ⌝ }
 {
     let mut starts = [0usize; CAPACITY];
     let mut ends = [0usize; CAPACITY];
@@ -100,8 +101,10 @@ fn show_on<'a>(
             tag,
             starts,
             ends,
-            false,
-            true,
+            Mode {
+                html: false,
+                checks: true,
+            },
             recorded,
             place,
             numbers,

@@ -1,40 +1,27 @@
 -- What a call for all the names of a tag promises: none is left out, and each gets the numbers that a call for it alone gives.
-use Prim.Native.Nat.{ℕ, zero, suc, _+_, _≤_, _<_}
-use mathlib.Core.Path.{_≡_, refl, sym, ap, _∙_}
+use Prim.Native.Nat.{ℕ, _+_, _<_}
+use mathlib.Core.Path.{_≡_, _∙_}
 use mathlib.Core.Bool.{true}
-use mathlib.Core.List.{List, [], _∷_, _++_}
-use mathlib.Core.Logic.{⊎-elim}
-use native.Mathlib.Nat.{eq-or-lt-of-le}
+use mathlib.Core.List.{List}
 use native.Mathlib.Omega.{arith}
 use lib.Dec.{ltb}
 use lib.ListN.{length, drop, getD, List·getD-append}
-use lib.Seq.{getD-at}
 use Rattle.scan.specs.Bytes.{inside}
-use Rattle.scan.specs.Lists.{over}
+use Rattle.scan.specs.Lists.{over, listTo}
+use Rattle.scan.proofs.Lists.{list-length, list-at}
 use Rattle.scope_table.specs.Table.{validOf}
 use Rattle.scope_table.specs.Answer.{toldOf}
 use Rattle.scope_table.specs.declared.NamespaceResolver.{NamespaceResolver}
 use Rattle.scope_lookup.specs.Lookup.{resolvedNumbers, resolveOf}
 use Rattle.export_memory.specs.Boundary.{codeOf}
-use Rattle.export_names.specs.Names.{Names, upTo, nthOf, writtenOf, manyOf}
-use Rattle.export_names.proofs.Written.{upto-length}
+use Rattle.export_names.specs.Names.{Names, nthOf, writtenOf, manyOf}
 
 -- What is written at k.
 
-upto-at : (f : ℕ → ℕ) (n k : ℕ) → k < n → getD (upTo f n) k 0 ≡ f k
-unfolding upTo
-upto-at f zero k h = absurd (omega arith)
-upto-at f (suc n) k h =
-    let le : k ≤ n = omega arith in
-    ⊎-elim
-    (λ (e : k ≡ n). getD-at (upTo f n) (f n) [] 0 k (upto-length f n ∙ sym e) ∙ ap f (sym e))
-    (λ (l : k < n). List·getD-append (upTo f n) (f n ∷ []) 0 k (omega (arith, upto-length f n)) ∙ upto-at f n k l)
-    (eq-or-lt-of-le le)
-
-written-at : (d : List ℕ) (f : ℕ → ℕ) (n k : ℕ) → k < n → getD (over d 0 (upTo f n)) k 0 ≡ f k
+written-at : (d : List ℕ) (f : ℕ → ℕ) (n k : ℕ) → k < n → getD (over d 0 (listTo f n)) k 0 ≡ f k
 unfolding over
 written-at d f n k h =
-    List·getD-append (upTo f n) (drop (0 + length (upTo f n)) d) 0 k (omega (arith, upto-length f n)) ∙ upto-at f n k h
+    List·getD-append (listTo f n) (drop (0 + length (listTo f n)) d) 0 k (omega (arith, list-length f n)) ∙ list-at f n k 0 h
 
 module _ (x : NamespaceResolver) (good : validOf x ≡ true) (tag from to : List ℕ) (elements : ℕ) (kinds begins ends : List ℕ) where
   abbrev after : Names

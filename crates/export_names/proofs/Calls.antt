@@ -3,19 +3,24 @@
 use Prim.Native.Nat.{ℕ, _≤_}
 use mathlib.Core.Path.{_≡_, refl, sym, ap, _∙_}
 use mathlib.Core.Bool.{Bool, true, false, _&&_}
-use mathlib.Core.List.{List}
+use mathlib.Core.List.{List, [], _∷_}
+use mathlib.Core.Logic.{⊎-elim}
+use types.Run.{OneOf}
+use denote.Enum.Declared.{tagOf}
 use lib.ListN.{length, getD}
 use lib.Dec.{eqb, ltb}
-use borrow.Author.Tests.{eqb-true}
+use borrow.Author.Tests.{eqb-true, eqb-false}
 use Rattle.scan.specs.Bytes.{inside}
 use Rattle.scan.proofs.Bytes.{both}
 use Rattle.name.specs.Split.{hasColon, prefixOf}
 use Rattle.scope_table.specs.Records.{recordAt}
-use Rattle.scope_table.specs.Answer.{toldOf}
+use Rattle.scope_table.specs.Answer.{formNumber, toldOf}
 use Rattle.scope_table.specs.Lent.{standsFor, lent, formOf}
 use Rattle.scope_table.specs.declared.Head.{Head}
 use Rattle.scope_table.specs.declared.Told.{Told}
+use Rattle.scope_table.specs.declared.Form.{Form}
 use Rattle.scope_table.specs.declared.Form.the-variants as Is
+use Rattle.scope_table.proofs.Form as F
 use Rattle.scope_table.proofs.Good.{ready}
 use Rattle.scope_table.proofs.Calls.{asks, asks-wrong, asks-bad, asks-good}
 use Rattle.scope_lookup.specs.Inside.{Inside}
@@ -56,7 +61,7 @@ module _ (tag from to : List ℕ) (elements : ℕ) (kinds begins ends text recor
   abbrev pub nth : ℕ → Told
   nth = nthOf tag from to elements (standsFor text records (headIn head))
 
-  pub names-unlike : alikeOf from to kinds begins ends ≡ false → names 99 kinds begins ends ≡ all
+  pub names-unlike : alikeOf from to kinds begins ends ≡ false → names (formNumber Is.WrongLength) kinds begins ends ≡ all
   unfolding manyIn
   names-unlike u = rw u
 
@@ -84,27 +89,33 @@ module _ (tag from to : List ℕ) (elements : ℕ) (kinds begins ends text recor
 
     -- the whole call, where each length is right
     module _ (like : alikeOf from to kinds begins ends ≡ true) where
-      made : all ≡ lent (names 99 kinds begins ends) (manyOf tag from to elements kinds begins ends) text records h
+      made : all ≡ lent (names (formNumber Is.WrongLength) kinds begins ends) (manyOf tag from to elements kinds begins ends) text records h
       unfolding manyIn
       made = rw (like, read)
 
-      pub names-wrong : formOf text records h ≡ Is.WrongLength → names 99 kinds begins ends ≡ all
+      names-wrong : formOf text records h ≡ Is.WrongLength → names (formNumber Is.WrongLength) kinds begins ends ≡ all
       names-wrong e =
-          sym (made ∙ asks-wrong text records h (names 99 kinds begins ends) (manyOf tag from to elements kinds begins ends) e)
+          sym (made ∙ asks-wrong text records h (names (formNumber Is.WrongLength) kinds begins ends) (manyOf tag from to elements kinds begins ends) e)
 
-      pub names-bad : formOf text records h ≡ Is.Bad → names 20 kinds begins ends ≡ all
+      names-bad : formOf text records h ≡ Is.Bad → names (formNumber Is.Bad) kinds begins ends ≡ all
       unfolding manyOf
       names-bad e =
           sym
           (made
-          ∙ asks-bad text records h (names 99 kinds begins ends) (λ x. writtenOf (nthOf tag from to elements x) (length from) kinds begins ends) (λ x. names 20 kinds begins ends) e)
+          ∙ asks-bad text records h (names (formNumber Is.WrongLength) kinds begins ends) (λ x. writtenOf (nthOf tag from to elements x) (length from) kinds begins ends) (λ x. names (formNumber Is.Bad) kinds begins ends) e)
+
+      -- what is not of the right form, by its number
+      pub names-refused : (f : Form) → formOf text records h ≡ f → OneOf (1 ∷ 2 ∷ []) (tagOf F.the-type f) → names (formNumber f) kinds begins ends ≡ all
+      names-refused Is.Good e k = absurd (⊎-elim (eqb-false 0 1 refl) (eqb-false 0 2 refl) k)
+      names-refused Is.Bad e k = names-bad e
+      names-refused Is.WrongLength e k = names-wrong e
 
       pub names-good : formOf text records h ≡ Is.Good → (kinds′ begins′ ends′ : List ℕ) (i : ℕ) →
-          Filled nth (length from) kinds begins ends kinds′ begins′ ends′ i → length from ≤ i → names 0 kinds′ begins′ ends′ ≡ all
+          Filled nth (length from) kinds begins ends kinds′ begins′ ends′ i → length from ≤ i → names (formNumber Is.Good) kinds′ begins′ ends′ ≡ all
       unfolding manyOf
       names-good e kinds′ begins′ ends′ i p l =
           filled-all nth (length from) kinds begins ends kinds′ begins′ ends′ i p l
           ∙ ap (λ (x : Head). writtenOf (nthOf tag from to elements (standsFor text records x)) (length from) kinds begins ends) (sym read)
           ∙ sym
           (made
-          ∙ asks-good text records h (names 99 kinds begins ends) (λ x. writtenOf (nthOf tag from to elements x) (length from) kinds begins ends) (λ x. names 20 kinds begins ends) e)
+          ∙ asks-good text records h (names (formNumber Is.WrongLength) kinds begins ends) (λ x. writtenOf (nthOf tag from to elements x) (length from) kinds begins ends) (λ x. names (formNumber Is.Bad) kinds begins ends) e)

@@ -1,47 +1,41 @@
 -- Arrays that are filled one number after another: after i turns an array has the first i numbers, and behind them what stood
 -- there.
-use Prim.Native.Nat.{ℕ, zero, suc, _+_, _≤_, _<_}
+use Prim.Native.Nat.{ℕ, suc, _+_, _≤_, _<_}
 use mathlib.Core.Path.{_≡_, refl, sym, ap, _∙_}
-use mathlib.Core.List.{List, [], _∷_, _++_}
+use mathlib.Core.List.{List, _++_}
 use native.Mathlib.Nat.{zero-add}
 use native.Mathlib.Numerals.{add-one}
 use native.Mathlib.Omega.{arith}
-use lib.ListN.{length, drop, set, getD, length-append, length-set}
+use lib.ListN.{length, drop, set, getD, length-set}
 use lib.Seq.{drop-cons, set-at, append-snoc}
-use Rattle.scan.specs.Lists.{over}
+use Rattle.scan.specs.Lists.{over, listTo}
+use Rattle.scan.proofs.Lists.{list-length}
 use Rattle.scope_table.specs.declared.Told.{Told}
-use Rattle.export_names.specs.Names.{names, upTo, writtenOf}
-
-pub upto-length : (f : ℕ → ℕ) (n : ℕ) → length (upTo f n) ≡ n
-unfolding upTo
-upto-length f zero = refl
-upto-length f (suc n) =
-    let e = upto-length f n in
-    length-append (upTo f n) (f n ∷ []) ∙ omega arith
+use Rattle.export_names.specs.Names.{names, writtenOf}
 
 module _ (d : List ℕ) (f : ℕ → ℕ) where
-  front : (i : ℕ) → over d 0 (upTo f i) ≡ upTo f i ++ drop i d
+  front : (i : ℕ) → over d 0 (listTo f i) ≡ listTo f i ++ drop i d
   unfolding over
-  front i = rw (zero-add (length (upTo f i)), upto-length f i)
+  front i = rw (zero-add (length (listTo f i)), list-length f i)
 
   -- the number at i is written
-  write-next : (i : ℕ) → i < length d → set (over d 0 (upTo f i)) i (f i) ≡ over d 0 (upTo f (i + 1))
-  unfolding upTo
+  write-next : (i : ℕ) → i < length d → set (over d 0 (listTo f i)) i (f i) ≡ over d 0 (listTo f (i + 1))
+  unfolding listTo
   write-next i h =
-      ap (λ (l : List ℕ). set l i (f i)) (front i ∙ ap (λ (l : List ℕ). upTo f i ++ l) (drop-cons d i 0 h))
-      ∙ set-at (upTo f i) (getD d i 0) (drop (suc i) d) (f i) i (upto-length f i)
-      ∙ sym (ap (λ (k : ℕ). over d 0 (upTo f k)) (add-one i) ∙ front (suc i) ∙ append-snoc (upTo f i) (f i) (drop (suc i) d))
+      ap (λ (l : List ℕ). set l i (f i)) (front i ∙ ap (λ (l : List ℕ). listTo f i ++ l) (drop-cons d i 0 h))
+      ∙ set-at (listTo f i) (getD d i 0) (drop (suc i) d) (f i) i (list-length f i)
+      ∙ sym (ap (λ (k : ℕ). over d 0 (listTo f k)) (add-one i) ∙ front (suc i) ∙ append-snoc (listTo f i) (f i) (drop (suc i) d))
 
   -- nothing is written yet
-  write-none : d ≡ over d 0 (upTo f 0)
-  unfolding upTo
+  write-none : d ≡ over d 0 (listTo f 0)
+  unfolding listTo
   write-none = sym (front 0)
 
 -- An array of n places that was d, with the first i numbers.
 pub record Part (d now : List ℕ) (f : ℕ → ℕ) (n i : ℕ) : Type 0 where
   pub long : length d ≡ n
   pub kept : length now ≡ length d
-  pub holds : now ≡ over d 0 (upTo f i)
+  pub holds : now ≡ over d 0 (listTo f i)
 
 part-none : (d : List ℕ) (f : ℕ → ℕ) (n : ℕ) → length d ≡ n → Part d d f n 0
 part-none d f n e = record { long = e; kept = refl; holds = write-none d f }
@@ -52,7 +46,7 @@ part-next d now f n i v p h e =
     record {
       long = l;
       kept = length-set now i v ∙ p .kept;
-      holds = ap (λ (t : List ℕ). set t i v) (p .holds) ∙ ap (set (over d 0 (upTo f i)) i) e ∙ write-next d f i (omega arith);
+      holds = ap (λ (t : List ℕ). set t i v) (p .holds) ∙ ap (set (over d 0 (listTo f i)) i) e ∙ write-next d f i (omega arith);
     }
 
 -- The three arrays of the answers, with the first i of n.

@@ -1,24 +1,20 @@
 -- The names of one tag looked up by one call across the boundary: three numbers for each, each in an array of its own.
-use Prim.Native.Nat.{ℕ, zero, suc}
+use Prim.Native.Nat.{ℕ}
 use mathlib.Core.Bool.{Bool, _&&_}
-use mathlib.Core.List.{List, [], _∷_, _++_}
+use mathlib.Core.List.{List}
 use lib.ListN.{length, getD}
 use lib.Dec.{eqb, ltb}
 use Rattle.scan.specs.First.{pick}
 use Rattle.scan.specs.Bytes.{inside}
-use Rattle.scan.specs.Lists.{over}
+use Rattle.scan.specs.Lists.{over, listTo}
 use Rattle.scope_table.specs.Table.{validOf}
-use Rattle.scope_table.specs.Answer.{toldOf}
+use Rattle.scope_table.specs.Answer.{formNumber, toldOf}
 use Rattle.scope_table.specs.Lent.{lent}
 use Rattle.scope_table.specs.declared.NamespaceResolver.{NamespaceResolver}
 use Rattle.scope_table.specs.declared.Told.{Told}
+use Rattle.scope_table.specs.declared.Form.the-variants as Is
 use Rattle.scope_lookup.specs.Lookup.{resolvedNumbers, resolveOf}
 use Rattle.export_memory.specs.Boundary.{headIn}
-
--- f of each number below n
-unfoldable pub upTo : (ℕ → ℕ) → ℕ → List ℕ
-upTo f zero = []
-upTo f (suc n) = upTo f n ++ f n ∷ []
 
 -- what a call answers, and the three arrays that it writes
 pub record Names : Type 0 where
@@ -39,13 +35,13 @@ nthOf tag from to elements x i =
 -- n answers, written from the beginning of each array
 unfoldable pub writtenOf : (ℕ → Told) → ℕ → (kinds begins ends : List ℕ) → Names
 writtenOf f n kinds begins ends =
-    names 0 (over kinds 0 (upTo (λ i. f i .number) n)) (over begins 0 (upTo (λ i. f i .first) n))
-    (over ends 0 (upTo (λ i. f i .second) n))
+    names (formNumber Is.Good) (over kinds 0 (listTo (λ i. f i .number) n)) (over begins 0 (listTo (λ i. f i .first) n))
+    (over ends 0 (listTo (λ i. f i .second) n))
 
 -- 20 comes first, and writes nothing; else every name is answered.
 unfoldable pub manyOf : (tag from to : List ℕ) (elements : ℕ) (kinds begins ends : List ℕ) → NamespaceResolver → Names
 manyOf tag from to elements kinds begins ends x =
-    pick (validOf x) (writtenOf (nthOf tag from to elements x) (length from) kinds begins ends) (names 20 kinds begins ends)
+    pick (validOf x) (writtenOf (nthOf tag from to elements x) (length from) kinds begins ends) (names (formNumber Is.Bad) kinds begins ends)
 
 -- As many starts as ends, and as many places for each part of an answer.
 unfoldable pub alikeOf : (from to kinds begins ends : List ℕ) → Bool
@@ -59,5 +55,5 @@ alikeOf from to kinds begins ends =
 unfoldable pub manyIn : (tag from to : List ℕ) (elements : ℕ) (kinds begins ends text records head : List ℕ) → Names
 manyIn tag from to elements kinds begins ends text records head =
     pick (alikeOf from to kinds begins ends)
-    (lent (names 99 kinds begins ends) (manyOf tag from to elements kinds begins ends) text records (headIn head))
-    (names 99 kinds begins ends)
+    (lent (names (formNumber Is.WrongLength) kinds begins ends) (manyOf tag from to elements kinds begins ends) text records (headIn head))
+    (names (formNumber Is.WrongLength) kinds begins ends)

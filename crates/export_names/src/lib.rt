@@ -4,11 +4,6 @@ ghost use mathlib.Core.Path.{_≡_};
 ghost use Rattle.export_names.specs.Names.{alikeOf, names, manyIn};
 use scope_table::Form;
 
-// Refusal 20, and the answer of lent memory of a wrong length.
-const BAD_RESOLVER: usize = 20;
-
-const WRONG_LENGTH: usize = 99;
-
 // Whether there are as many starts as ends, and as many places for each part of an answer.
 fn alike<'n>(
     from: &'n [usize],
@@ -53,15 +48,14 @@ pub extern "C" fn mz_resolve_all<'t, 'n>(
         (now (text .entry)) (now (records .entry)) (now (head .entry)) ⌝ }
 {
     if !alike(from, to, kinds, begins, ends) {
-        return WRONG_LENGTH;
+        let wrong = Form::WrongLength;
+        return wrong.number();
     }
     let h = export_memory::head_from(head);
     let form = scope_table::form_in(text, records, h);
-    match form {
-        Form::Good => {}
-        Form::Bad => return BAD_RESOLVER,
-        Form::WrongLength => return WRONG_LENGTH,
-    }
+    let Form::Good = form else {
+        return form.number();
+    };
     let count = h.count;
     let mut i = 0;
     while i < from.len() {

@@ -9,10 +9,10 @@ use Rattle.scope_table.specs.declared.Head.{Head}
 use Rattle.scope_nil.specs.declared.HasNil.{HasNil}
 use Rattle.scope_nil.specs.declared.Left.{Left}
 use Rattle.scope_nil.specs.declared.Standing.{Standing}
-use Rattle.scope_nil.specs.Nil.{standsAt, leftBy, hasNilIn}
+use Rattle.scope_nil.specs.Nil.{nilNumber, standsAt, nilLeftBy, hasNilIn}
 use Rattle.export_cursor.specs.Cursor.{placeFrom, settledOf, heldIn}
 use Rattle.export_memory.specs.Boundary.{headIn}
-use Rattle.export_nil.specs.Search.{nilNumber, found, foundOf, hasNilBy}
+use Rattle.export_nil.specs.Search.{nilEnd, nilEndOf, hasNilBy}
 
 module _ (text records head tag keyStarts keyEnds state : List ℕ) (html checks : Bool) where
   -- the iterator in these numbers, at a place
@@ -21,13 +21,13 @@ module _ (text records head tag keyStarts keyEnds state : List ℕ) (html checks
 
   pub nil-made : (h : Head) (place : Place) (out : Left) (keyStarts′ keyEnds′ state′ : List ℕ) (r : ℕ) →
       h ≡ headIn head → place ≡ placeFrom (length tag) (getD state 0 0) (getD state 1 0) →
-      leftBy (standing place) out keyStarts′ keyEnds′ ≡ hasNilIn tag (standsAt (standing place) keyStarts keyEnds) text records h →
+      nilLeftBy (standing place) out keyStarts′ keyEnds′ ≡ hasNilIn tag (standsAt (standing place) keyStarts keyEnds) text records h →
       state′ ≡ settledOf state place (out .place) (out .count) → r ≡ nilNumber (out .answer) →
-      found r keyStarts′ keyEnds′ state′ ≡ hasNilBy text records head tag keyStarts keyEnds state html checks
-  unfolding foundOf hasNilBy heldIn
+      nilEnd r keyStarts′ keyEnds′ state′ ≡ hasNilBy text records head tag keyStarts keyEnds state html checks
+  unfolding nilEndOf hasNilBy heldIn
   nil-made h place out keyStarts′ keyEnds′ state′ r read at made left number =
-      ap (λ (x : List ℕ). found r keyStarts′ keyEnds′ x) left
-      ∙ ap (λ (k : ℕ). found k keyStarts′ keyEnds′ (settledOf state place (out .place) (out .count))) number
-      ∙ ap (foundOf state place) made
-      ∙ ap (λ (x : Head). foundOf state place (hasNilIn tag (standsAt (standing place) keyStarts keyEnds) text records x)) read
-      ∙ ap (λ (p : Place). foundOf state p (hasNilIn tag (standsAt (standing p) keyStarts keyEnds) text records (headIn head))) at
+      ap (λ (x : List ℕ). nilEnd r keyStarts′ keyEnds′ x) left
+      ∙ ap (λ (k : ℕ). nilEnd k keyStarts′ keyEnds′ (settledOf state place (out .place) (out .count))) number
+      ∙ ap (nilEndOf state place) made
+      ∙ ap (λ (x : Head). nilEndOf state place (hasNilIn tag (standsAt (standing place) keyStarts keyEnds) text records x)) read
+      ∙ ap (λ (p : Place). nilEndOf state p (hasNilIn tag (standsAt (standing p) keyStarts keyEnds) text records (headIn head))) at

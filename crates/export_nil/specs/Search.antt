@@ -1,46 +1,32 @@
 -- A search for `nil` across the boundary: the resolver and the iterator stand in lent memory, and the answer is a number.
-use Prim.Native.Nat.{ℕ, _+_}
+use Prim.Native.Nat.{ℕ}
 use mathlib.Core.Bool.{Bool}
 use mathlib.Core.List.{List}
 use lib.ListN.{length, getD}
 use Rattle.tag_step.specs.declared.Place.{Place}
-use Rattle.tag_parts.specs.declared.Truth.{Truth}
-use Rattle.tag_parts.specs.declared.Truth.the-variants as Says
-use Rattle.scope_nil.specs.declared.Nil.{Nil}
 use Rattle.scope_nil.specs.declared.HasNil.{HasNil}
-use Rattle.scope_nil.specs.Nil.{nilNumbers, hasNilIn}
+use Rattle.scope_nil.specs.Nil.{nilNumber, hasNilIn}
 use Rattle.export_cursor.specs.Cursor.{placeFrom, settledOf, heldIn}
 use Rattle.export_memory.specs.Boundary.{headIn}
 
--- What a value says: 0 a no, 1 a yes, 2 neither.
-unfoldable pub truthNumber : Truth → ℕ
-truthNumber Says.No = 0
-truthNumber Says.Yes = 1
-truthNumber Says.Neither = 2
-
 -- what a call answers, and the iterator's arrays after it
-pub record Found : Type 0 where
+pub record NilEnd : Type 0 where
   pub result : ℕ
   pub starts : List ℕ
   pub ends : List ℕ
   pub state : List ℕ
 
-abbrev pub found : ℕ → (starts ends state : List ℕ) → Found
-found r starts ends state = record { result = r; starts = starts; ends = ends; state = state }
-
--- 0 a no and 1 a yes; a refusal has its own number. By `nilNumbers` a yes or a no has the number 0 and its value, and a
--- refusal its number and no value: so it is the sum of the two.
-unfoldable pub nilNumber : Nil → ℕ
-nilNumber a = getD (nilNumbers a) 0 0 + getD (nilNumbers a) 1 0
+abbrev pub nilEnd : ℕ → (starts ends state : List ℕ) → NilEnd
+nilEnd r starts ends state = record { result = r; starts = starts; ends = ends; state = state }
 
 -- What a search leaves: of the iterator's numbers the fourth is not touched.
-unfoldable pub foundOf : (state : List ℕ) (before : Place) → HasNil → Found
-foundOf state before h =
-    found (nilNumber (h .answer)) (h .state .starts) (h .state .ends)
+unfoldable pub nilEndOf : (state : List ℕ) (before : Place) → HasNil → NilEnd
+nilEndOf state before h =
+    nilEnd (nilNumber (h .answer)) (h .state .starts) (h .state .ends)
     (settledOf state before (h .state .place) (h .state .count))
 
 -- The iterator and the resolver as they stand in lent memory.
-unfoldable pub hasNilBy : (text records head tag keyStarts keyEnds state : List ℕ) (html checks : Bool) → Found
+unfoldable pub hasNilBy : (text records head tag keyStarts keyEnds state : List ℕ) (html checks : Bool) → NilEnd
 hasNilBy text records head tag keyStarts keyEnds state html checks =
-    foundOf state (placeFrom (length tag) (getD state 0 0) (getD state 1 0))
+    nilEndOf state (placeFrom (length tag) (getD state 0 0) (getD state 1 0))
     (hasNilIn tag (heldIn tag keyStarts keyEnds state html checks) text records (headIn head))

@@ -1,44 +1,17 @@
 // What the static library exports of what stands on both the iterator and the resolver: `has_nil`; and what one value says.
 // Each function hands what it is lent on to the crate that has the rule, and answers by a number; none asks anything of
 // its caller.
-use scope_nil::Nil;
 use scope_nil::Standing;
-use tag_parts::Truth;
 ghost use mathlib.Core.Path.{_≡_};
-ghost use Rattle.tag_parts.specs.Parts.{truthOf};
-ghost use Rattle.export_nil.specs.Search.{truthNumber, nilNumber, found, hasNilBy};
-
-// The number of what a value says.
-fn truth_number(truth: Truth) -> usize
-    ensures { λ r. ⌜ r ≡ truthNumber truth ⌝ }
-{
-    match truth {
-        Truth::No => 0,
-        Truth::Yes => 1,
-        Truth::Neither => 2,
-    }
-}
+ghost use Rattle.tag_parts.specs.Parts.{truthOf, truthNumber};
+ghost use Rattle.export_nil.specs.Search.{nilEnd, hasNilBy};
 
 // What a value says: `tag_parts::as_bool`. 0 a no, 1 a yes, 2 neither.
 #[no_mangle]
 pub extern "C" fn mz_as_bool(value: &[u8]) -> usize
     ensures { λ r. ⌜ r ≡ truthNumber (truthOf (now (value .entry))) ⌝ }
 {
-    truth_number(tag_parts::as_bool(value))
-}
-
-// The number of an answer: 0 a no and 1 a yes; a refusal has its own.
-fn nil_number(answer: Nil) -> usize
-    ensures { λ r. ⌜ r ≡ nilNumber answer ⌝ }
-{
-    match answer {
-        Nil::No => 0,
-        Nil::Yes => 1,
-        Nil::BadState => 7,
-        Nil::BadResolver => 20,
-        Nil::LendMore => 98,
-        Nil::WrongLength => 99,
-    }
+    tag_parts::as_bool(value).number()
 }
 
 // Whether an attribute from here on says that the element is nil: `scope_nil::has_nil_in`. The resolver is lent as to
@@ -57,7 +30,7 @@ pub extern "C" fn mz_has_nil<'k, 't>(
     checks: bool,
 ) -> usize
     ensures { λ r.
-        ⌜ found r (now («key_starts» .exit)) (now («key_ends» .exit)) (now (state .exit))
+        ⌜ nilEnd r (now («key_starts» .exit)) (now («key_ends» .exit)) (now (state .exit))
         ≡ hasNilBy (now (text .entry)) (now (records .entry)) (now (head .entry)) (now (tag .entry))
         (now («key_starts» .entry)) (now («key_ends» .entry)) (now (state .entry)) html checks ⌝ }
 {
@@ -73,5 +46,5 @@ pub extern "C" fn mz_has_nil<'k, 't>(
     let left = out.place;
     export_cursor::settle(state, place, left, out.count);
     let answer = out.answer;
-    nil_number(answer)
+    answer.number()
 }

@@ -8,10 +8,10 @@ use Rattle.scope_table.specs.Lent.{Given, freshIn}
 use Rattle.export_memory.specs.Boundary.{headAfter, codeOf, Crossed, crossed}
 
 -- the head that a call without one is given
-abbrev pub none : (text records : List ℕ) → Given
-none text records = freshIn text records (headOf 0 0 0 0)
+abbrev pub nothingGiven : (text records : List ℕ) → Given
+nothingGiven text records = freshIn text records (headOf 0 0 0 0)
 
 unfoldable pub freshBy : (text records head : List ℕ) → Crossed
 freshBy text records head =
-    let g = none text records in
+    let g = nothingGiven text records in
     crossed (codeOf (changeNumbers (g .answer))) (g .text) (g .records) (pick (isDone (g .answer)) (headAfter head (g .head)) head) []

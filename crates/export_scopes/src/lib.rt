@@ -13,7 +13,7 @@ ghost use Rattle.export_scopes.specs.Declared.{declaredBy};
 ghost use Rattle.export_scopes.specs.Fresh.{freshBy};
 use export_memory::DETAIL;
 use export_memory::HEAD;
-use name::Declares;
+use name::PrefixDeclaration;
 use scope_table::Head;
 use scope_table::NamespaceResolver;
 use scope_table::NamespaceResult;
@@ -119,13 +119,13 @@ pub extern "C" fn mz_set_level(
 }
 
 // A named prefix, or the default.
-fn declared_by(named: bool) -> Declares
+fn declared_by(named: bool) -> PrefixDeclaration
     ensures { λ r. ⌜ r ≡ declaredBy named ⌝ }
 {
     if named {
-        return Declares::Named;
+        return PrefixDeclaration::Named;
     }
-    Declares::Default
+    PrefixDeclaration::Default
 }
 
 // A binding goes in: `scope_declare::add_in`. Without `named` the default, whatever `prefix` holds.

@@ -13,7 +13,7 @@ use Rattle.tag_batch.specs.declared.Batch.the-variants.{Read, WrongTables}
 use Rattle.tag_batch.specs.declared.Why.{Why}
 use Rattle.tag_batch.specs.Batch.{whyNumber, Batched, batched, batchOf}
 use Rattle.export_cursor.specs.Cursor.{placeFrom, settledOf, heldIn}
-use Rattle.export_tags.specs.Reading.{Reading, reading, NONE, stateBy, across, readBatchOf}
+use Rattle.export_tags.specs.Reading.{BatchEnd, batchEnd, NONE, stateBy, across, readBatchOf}
 
 module _ (tag starts ends state out : List ℕ) (html checks : Bool) (place : Place) (stands : place ≡ placeFrom (length tag) (getD state 0 0) (getD state 1 0))
     (b : Batch) (starts' ends' out' : List ℕ) (e : batched b starts' ends' out' ≡ batchOf tag (lentState place html checks starts ends (getD state 2 0)) out) where
@@ -24,21 +24,21 @@ module _ (tag starts ends state out : List ℕ) (html checks : Bool) (place : Pl
       ∙ ap (λ (p : Place). across state p (length out) (batchOf tag (lentState p html checks starts ends (getD state 2 0)) out)) stands
 
   -- tables that are too long
-  pub tables-refused : b ≡ WrongTables → reading NONE starts' ends' state out' ≡ readBatchOf tag starts ends state out html checks
+  pub tables-refused : b ≡ WrongTables → batchEnd NONE starts' ends' state out' ≡ readBatchOf tag starts ends state out html checks
   unfolding stateBy
   tables-refused w = ap (λ (x : Batch). across state place (length out) (batched x starts' ends' out')) (sym w) ∙ went
 
   module _ (n : ℕ) (left : Place) (recorded : ℕ) (why : Why) (r : b ≡ Read n left recorded why) where
     -- no room
-    pub room-none : length out < 5 → reading n starts' ends' state out' ≡ readBatchOf tag starts ends state out html checks
+    pub room-none : length out < 5 → batchEnd n starts' ends' state out' ≡ readBatchOf tag starts ends state out html checks
     unfolding stateBy
     room-none h =
         rw (lt-ltb (length out) 5 h) at (ap (λ (x : Batch). across state place (length out) (batched x starts' ends' out')) (sym r)) ∙ went
 
-    pub read-leaves : 5 ≤ length out → (state' : List ℕ) → state' ≡ set (settledOf state place left recorded) 3 (whyNumber why) → reading n starts' ends' state' out' ≡ readBatchOf tag starts ends state out html checks
+    pub read-leaves : 5 ≤ length out → (state' : List ℕ) → state' ≡ set (settledOf state place left recorded) 3 (whyNumber why) → batchEnd n starts' ends' state' out' ≡ readBatchOf tag starts ends state out html checks
     unfolding stateBy
     read-leaves h state' w =
-        ap (λ (l : List ℕ). reading n starts' ends' l out') w
+        ap (λ (l : List ℕ). batchEnd n starts' ends' l out') w
         ∙ (rw (le-ltb (length out) 5 h) at (ap (λ (x : Batch). across state place (length out) (batched x starts' ends' out')) (sym r))) ∙ went
 
 -- the numbers as the code leaves them

@@ -12,24 +12,24 @@ use Rattle.tag_batch.specs.Batch.{whyNumber, Batched, batchOf}
 use Rattle.export_cursor.specs.Cursor.{placeFrom, settledOf, heldIn}
 
 -- what a call answers, and the lent memory after it
-pub record Reading : Type 0 where
+pub record BatchEnd : Type 0 where
   pub answers : ℕ
   pub starts : List ℕ
   pub ends : List ℕ
   pub state : List ℕ
   pub out : List ℕ
 
-abbrev pub reading : ℕ → (starts ends state out : List ℕ) → Reading
-reading n starts ends state out = record { answers = n; starts = starts; ends = ends; state = state; out = out }
+abbrev pub batchEnd : ℕ → (starts ends state out : List ℕ) → BatchEnd
+batchEnd n starts ends state out = record { answers = n; starts = starts; ends = ends; state = state; out = out }
 
 -- no number of answers: the largest number there is
 abbrev pub NONE : ℕ
 NONE = 18446744073709551615
 
 -- the number of answers; none for tables that are too long
-abbrev pub answersBy : Batch → ℕ
-answersBy (Read n left recorded why) = n
-answersBy WrongTables = NONE
+abbrev pub answersNumber : Batch → ℕ
+answersNumber (Read n left recorded why) = n
+answersNumber WrongTables = NONE
 
 -- The four numbers after a batch: the place that is left, the recorded keys, and why it stopped. With room for no answer
 -- nothing is written, nor where the tables are too long.
@@ -39,10 +39,10 @@ stateBy state before room (Read n left recorded why) =
 stateBy state before room WrongTables = state
 
 -- a batch, with those numbers before it and the room that it had
-abbrev pub across : (state : List ℕ) (before : Place) (room : ℕ) → Batched → Reading
-across state before room x = reading (answersBy (x .batch)) (x .starts) (x .ends) (stateBy state before room (x .batch)) (x .out)
+abbrev pub across : (state : List ℕ) (before : Place) (room : ℕ) → Batched → BatchEnd
+across state before room x = batchEnd (answersNumber (x .batch)) (x .starts) (x .ends) (stateBy state before room (x .batch)) (x .out)
 
-unfoldable pub readBatchOf : (tag starts ends state out : List ℕ) (html checks : Bool) → Reading
+unfoldable pub readBatchOf : (tag starts ends state out : List ℕ) (html checks : Bool) → BatchEnd
 readBatchOf tag starts ends state out html checks =
     across state (placeFrom (length tag) (getD state 0 0) (getD state 1 0)) (length out)
     (batchOf tag (heldIn tag starts ends state html checks) out)

@@ -5,7 +5,7 @@ ghost use Rattle.name.specs.Split.{colonAt};
 ghost use Rattle.name.specs.Reserved.{isXml, isXmlns};
 ghost use Rattle.name.specs.Declares.{declaresOf, declaresNumber};
 ghost use Rattle.name.specs.Verdict.{verdictOf, verdictNumber};
-ghost use Rattle.export_tags.specs.Reading.{reading, readBatchOf};
+ghost use Rattle.export_tags.specs.Reading.{batchEnd, readBatchOf};
 use tag_batch::Batch;
 
 // No number of answers.
@@ -67,7 +67,7 @@ pub extern "C" fn mz_read_batch<'a>(
     out: &mut [usize],
 ) -> usize
     ensures { λ r.
-        ⌜ reading r (now (starts .exit)) (now (ends .exit)) (now (state .exit)) (now (out .exit))
+        ⌜ batchEnd r (now (starts .exit)) (now (ends .exit)) (now (state .exit)) (now (out .exit))
         ≡ readBatchOf (now (tag .entry)) (now (starts .entry)) (now (ends .entry)) (now (state .entry)) (now (out .entry)) html checks ⌝ }
 {
     let place = export_cursor::place_from(tag.len(), state[0], state[1]);

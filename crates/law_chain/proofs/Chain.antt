@@ -10,7 +10,7 @@ use lib.Seq.{take-append-seam}
 use borrow.Author.Tests.{ne-eqb}
 use Rattle.scan.specs.First.{pick}
 use Rattle.scan.specs.Bytes.{part, inside, sameBytes, bytes, bytesFrom}
-use Rattle.scan.proofs.Bytes.{same-refl, same-eq, same-ne}
+use Rattle.scan.proofs.Bytes.{same-refl, same-eq, same-ne, inside-part}
 use Rattle.name.specs.Split.{colonAt, hasColon, colonOf, prefixOf}
 use Rattle.name.specs.Reserved.{xmlPrefix, xmlnsPrefix, xmlUri, xmlnsUri, isXml, isXmlns}
 use Rattle.name.specs.Declares.{opening}
@@ -28,7 +28,7 @@ use Rattle.scope_lookup.specs.Lookup.{hasPrefix, isDefault, explicitOf, default
 use Rattle.scope_lookup.specs.declared.Resolved.the-variants.{Unbound, Unknown}
 use Rattle.law_rows.specs.Seen.{bound, unbound, unknown, handedBack}
 use Rattle.law_chain.specs.Chain.{Tag, pushedOf, NoneRefused, NoneNo, FineTags, Stated, gives, nowhere, orElse, givenBy, innermost, declaring, declaringDefault, prefixedBy, defaultBy, unprefixed, meantBy, meantOf}
-use Rattle.law_chain.proofs.Table.{builtIns, fresh-holds, limited-holds, inside-part, newest, seenBy, last-seen, prefix-test, default-test}
+use Rattle.law_chain.proofs.Table.{builtIns, fresh-holds, limited-holds, newest, seenBy, last-seen, prefix-test, default-test}
 use Rattle.law_chain.proofs.Tag.{nameFor, After, then-after, allowed, push-binds}
 
 -- With the limit that it has from the start, a fresh resolver is as it was.

@@ -4,25 +4,28 @@ use Prim.Native.Nat.{ℕ, suc}
 use Prim.Native.String.{String}
 use mathlib.Core.Path.{_≡_, refl, sym, ap, _∙_}
 use mathlib.Core.Bool.{Bool, true, false, false≢true}
-use mathlib.Core.List.{List, [], _∷_, map}
+use mathlib.Core.List.{List, [], _∷_, map, _++_}
 use native.Mathlib.Omega.{arith}
 use lib.ListN.{drop}
-use Rattle.scan.specs.First.{stopOr, firstOf, firstTo, firstFrom}
-use Rattle.scan.specs.Bytes.{isSpace, notSpace, endsKey, isByte, part, sameBytes, bytesFrom, bytes}
+use Rattle.scan.specs.First.{firstOf, firstTo, firstFrom}
+use Rattle.scan.specs.Bytes.{isSpace, notSpace, endsKey, isByte, part, inside, sameBytes, bytesFrom, bytes}
 use Rattle.scan.specs.Lists.{over}
 use Rattle.scan.proofs.Bytes.{same-refl}
 use Rattle.tag_keys.specs.Keys.{keyGood, keyBad, countGood, tableGood, nameAt, sameKey, oldestOf, earlierOf, checkedBy, checkedOf, writtenBy, countBy}
-use Rattle.tag_step.specs.Read.{isAt, isQuote, skipTo, skipOf, recoverOf, keyEq, keyTo, keyFrom, keyAt, quoted, closedOf, quotedTo, quotedOf, unquotedTo, otherOf, valueIn, valueFrom, valueAt}
+use Rattle.tag_step.specs.Read.{isAt, isQuote, skipTo, skipOf, recoverOf, keyEq, keyTo, keyFrom, keyAt, quoted, closedOf, quotedTo, quotedOf, unquotedTo, otherOf, valueBy, valueFrom, valueAt}
 use Rattle.tag_step.specs.Next.{checkOf, keptBy, placeAt, bareBy, bareTo, bareOf, valuedBy, valuedTo, valuedOf, readKey, readAt, stepFrom, stepOf, placeGood, keysOf, stateGood, noKeys, badReading, leaves, nextOf, opened}
 use Rattle.tag_step.specs.Run.{isEnd, consUnless, runOf, answersOf}
-use Rattle.tag_parts.specs.Parts.{spanPart, keyPart, valuePart}
-use Rattle.name.specs.Split.{colonAt, hasColon, colonOf}
+use Rattle.tag_parts.specs.Parts.{keyPart, valuePart}
+use Rattle.name.specs.Split.{colonAt, hasColon, colonOf, prefixOf, localAt, localOf}
 use Rattle.name.specs.Reserved.{xmlPrefix, xmlnsPrefix, xmlUri, xmlnsUri, isXml, isXmlns, isXmlUri, isXmlnsUri}
 use Rattle.name.specs.Bind.{reservedBind}
 use Rattle.name.specs.Declares.{opening, isNamed, declaresOf, declaredPrefix}
 use Rattle.name.specs.Verdict.{isEmpty, isOther, isRefused, verdictNamed, verdictOn, verdictOf, verdictNumber}
 use Rattle.name.specs.declared.Verdict.the-variants.{No}
-use Rattle.law_wellformed.specs.Grammar.{each, some, isIn, oneOf, nameByte, Quote, double, quoteByte, valueByte, Piece, byte, pieceText, isPiece, valueText, arePieces, IsValue, Attribute, attributeThen, AttributeBy, attributesThen, textOf, AttributesBy, Absent, Distinct}
+use Rattle.name.proofs.Split.{split-joins, prefix-colon-free}
+use Rattle.name.proofs.Declared.{default-exactly, named-exactly, nothing-exactly}
+use Rattle.name.proofs.Verdicts.{isRefusal, yes-means, yes-binds}
+use Rattle.law_wellformed.specs.Grammar.{each, some, isIn, oneOf, nameByte, Quote, double, quoteByte, valueByte, Piece, byte, pieceText, isPiece, valueText, arePieces, IsValue, Attribute, attributeThen, AttributeBy, attributesThen, bodyText, AttributesBy, Absent, Distinct}
 use Rattle.scope_table.specs.Lists.{allBelow, allZero}
 use Rattle.scope_table.specs.Table.{LIMIT, builtIn, levelBefore, isRecord, opensBuiltIn, isChain, isRising, isWithin, isClear, isTable, validOf, freshOf}
 use Rattle.scope_table.specs.Table as Table
@@ -61,7 +64,7 @@ pub chain-means :
     × (seenIn chain "q:a" false ≡ bound (bytes "z")) × (seenIn (drop 1 chain) "q:a" false ≡ unknown (bytes "q"))
     × (seenIn chain "xml:lang" false ≡ bound xmlUri) × (seenIn chain "xmlns:p" false ≡ bound xmlnsUri)
     × (seenIn chain ":a" true ≡ unknown [])
-unfolding meantOf meantBy prefixedBy unprefixed defaultBy innermost givenBy orElse declaring declaringDefault isXml isXmlns isEmpty sameBytes xmlPrefix xmlnsPrefix xmlUri xmlnsUri bytes bytesFrom colonOf hasColon colonAt firstFrom firstTo firstOf stopOr isByte
+unfolding meantOf meantBy prefixedBy unprefixed defaultBy innermost givenBy orElse declaring declaringDefault isXml isXmlns isEmpty sameBytes xmlPrefix xmlnsPrefix xmlUri xmlnsUri bytes bytesFrom colonOf hasColon colonAt firstFrom firstTo firstOf isByte
 chain-means = (refl, refl, refl, refl, refl, refl, refl, refl, refl, refl)
 
 -- The premises.
@@ -101,7 +104,7 @@ module _ (name n v m w : String) where
       }
 
 pub chain-fine : FineTags chain
-unfolding FineTags some each nameByte valueByte quoteByte oneOf isIn isSpace sameBytes bytes bytesFrom verdictOf verdictOn verdictNamed isRefused isOther isEmpty hasColon colonAt firstFrom firstTo firstOf stopOr isByte declaresOf declaredPrefix isNamed opening isXml isXmlns isXmlUri isXmlnsUri xmlPrefix xmlnsPrefix xmlUri xmlnsUri
+unfolding FineTags some each nameByte valueByte quoteByte oneOf isIn isSpace sameBytes bytes bytesFrom verdictOf verdictOn verdictNamed isRefused isOther isEmpty hasColon colonAt firstFrom firstTo firstOf isByte declaresOf declaredPrefix isNamed opening isXml isXmlns isXmlUri isXmlnsUri xmlPrefix xmlnsPrefix xmlUri xmlnsUri
 chain-fine = (
   tag-fine "c" "xmlns" "" "xmlns:q" "z" refl refl refl refl refl 0 refl 0 refl,
   (
@@ -111,7 +114,7 @@ chain-fine = (
 )
 
 pub chain-not-refused : NoneRefused LIMIT chain
-unfolding NoneRefused pushedOf textOf attributesThen attributeThen quoteByte stopOr firstOf firstTo firstFrom isSpace notSpace endsKey isByte part sameBytes bytesFrom bytes keyGood keyBad countGood tableGood nameAt sameKey oldestOf earlierOf checkedBy checkedOf writtenBy countBy isAt isQuote skipTo skipOf recoverOf keyEq keyTo keyFrom keyAt quoted closedOf quotedTo quotedOf unquotedTo otherOf valueIn valueFrom valueAt checkOf keptBy placeAt bareBy bareTo bareOf valuedBy valuedTo valuedOf readKey readAt stepFrom stepOf placeGood keysOf stateGood noKeys badReading leaves nextOf opened isEnd consUnless runOf answersOf spanPart keyPart valuePart xmlPrefix xmlnsPrefix xmlUri xmlnsUri isXml isXmlns isXmlUri isXmlnsUri reservedBind opening isNamed declaresOf declaredPrefix allBelow allZero over builtIn Table.textOf levelBefore isRecord opensBuiltIn isChain isRising isWithin isClear isTable validOf freshOf boundOf refusalOf appendOf namedOf judgeOf settleOf declareOf limitedOf declarationOf declarationThen declarationsOf tagAnswers thenOf declareAll raisedOf pushOf
+unfolding NoneRefused pushedOf bodyText attributesThen attributeThen quoteByte firstOf firstTo firstFrom isSpace notSpace endsKey isByte part sameBytes bytesFrom bytes keyGood keyBad countGood tableGood nameAt sameKey oldestOf earlierOf checkedBy checkedOf writtenBy countBy isAt isQuote skipTo skipOf recoverOf keyEq keyTo keyFrom keyAt quoted closedOf quotedTo quotedOf unquotedTo otherOf valueBy valueFrom valueAt checkOf keptBy placeAt bareBy bareTo bareOf valuedBy valuedTo valuedOf readKey readAt stepFrom stepOf placeGood keysOf stateGood noKeys badReading leaves nextOf opened isEnd consUnless runOf answersOf inside keyPart valuePart xmlPrefix xmlnsPrefix xmlUri xmlnsUri isXml isXmlns isXmlUri isXmlnsUri reservedBind opening isNamed declaresOf declaredPrefix allBelow allZero over builtIn Table.textOf levelBefore isRecord opensBuiltIn isChain isRising isWithin isClear isTable validOf freshOf boundOf refusalOf appendOf namedOf judgeOf settleOf declareOf limitedOf declarationOf declarationThen declarationsOf tagAnswers thenOf declareAll raisedOf pushOf
 chain-not-refused = (refl, (refl, (refl, tt)))
 
 -- What lookups hand back after the three pushes.
@@ -138,3 +141,21 @@ default-instance = innermost-default LIMIT chain chain-fine chain-not-refused []
 pub plain-instance : (refers : Piece → List ℕ) → meaningOf refers (map byte (bytes "u v")) ≡ bytes "u v"
 unfolding isPlain each oneOf isIn valueText pieceText bytes bytesFrom
 plain-instance refers = plain-stands refers (map byte (bytes "u v")) refl
+
+-- Names and declarations, as they stand in these tags.
+
+pub split-instance : bytes "p:a" ≡ bytes "p" ++ 58 ∷ bytes "a"
+unfolding firstOf firstTo firstFrom isByte bytesFrom bytes colonAt hasColon prefixOf localAt localOf
+split-instance = split-joins (bytes "p:a") refl
+
+pub colon-free-instance : hasColon (bytes "p") ≡ false
+unfolding firstOf firstTo firstFrom isByte bytesFrom bytes colonAt hasColon prefixOf
+colon-free-instance = prefix-colon-free (bytes "p:a")
+
+pub declares-instances : (bytes "xmlns" ≡ xmlnsPrefix) × (bytes "xmlns:p" ≡ opening ++ bytes "p") × ((p : List ℕ) → bytes "a" ≡ opening ++ p → ⊥)
+unfolding sameBytes bytesFrom bytes xmlnsPrefix isXmlns opening isNamed declaresOf declaredPrefix
+declares-instances = (default-exactly (bytes "xmlns") refl, named-exactly (bytes "xmlns:p") refl, nothing-exactly (bytes "a") refl .1)
+
+pub yes-instance : (isXmlUri (bytes "v") ≡ false) × (isRefusal (reservedBind (bytes "p") (bytes "v")) ≡ false)
+unfolding firstOf firstTo firstFrom isByte sameBytes bytesFrom bytes xmlPrefix xmlnsPrefix xmlUri xmlnsUri isXml isXmlns isXmlUri isXmlnsUri colonAt hasColon isEmpty isOther isRefused verdictNamed
+yes-instance = (yes-means (bytes "p") (bytes "v") refl .other-uri refl .0, yes-binds (bytes "p") (bytes "v") refl)

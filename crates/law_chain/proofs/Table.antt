@@ -8,9 +8,10 @@ use native.Mathlib.Numerals.{add-one}
 use native.Mathlib.Omega.{arith}
 use lib.Dec.{eqb}
 use lib.ListN.{length}
-use borrow.Author.Tests.{ne-eqb, le-leb}
+use borrow.Author.Tests.{ne-eqb}
 use Rattle.scan.specs.First.{pick}
-use Rattle.scan.specs.Bytes.{part, inside, sameBytes}
+use Rattle.scan.proofs.Bytes.{inside-part}
+use Rattle.scan.specs.Bytes.{inside, sameBytes}
 use Rattle.name.specs.Reserved.{xmlPrefix, xmlnsPrefix, xmlUri, xmlnsUri}
 use Rattle.name.specs.Verdict.{isEmpty}
 use Rattle.scope_table.specs.Records.{recordAt, valueStart, valueEnd, prefixIn, valueIn}
@@ -21,13 +22,13 @@ use Rattle.scope_change.specs.Change.{boundOf}
 use Rattle.scope_declare.specs.Declare.{limitedOf}
 use Rattle.scope_push.specs.Push.{raisedOf}
 use Rattle.scope_table.specs.Lists.{lastBelow}
+use Rattle.scope_table.proofs.Good.{Shaped, form-of}
 use Rattle.scope_lookup.specs.Lookup.{hasPrefix, isDefault, valueOr, uriPart}
 use Rattle.scope_lookup.specs.declared.Resolved.{Resolved}
 use Rattle.scope_lookup.specs.declared.Resolved.the-variants.{Bound}
 use Rattle.law_scopes.specs.Scopes.{Made, made}
 use Rattle.law_scopes.specs.Made.{madeOf, madeAt}
 use Rattle.law_scopes.specs.Promises.{Proper, BuiltInsStand}
-use Rattle.law_scopes.proofs.Form.{Shaped, form-of}
 use Rattle.law_scopes.proofs.Bound.{Takes}
 use Rattle.law_scopes.proofs.Valid.{bound-proper, raised-proper, limited-proper, fresh-proper}
 use Rattle.law_scopes.proofs.Made.{record-ends, bound-old, bound-new, prefix-length, value-length}
@@ -108,10 +109,6 @@ newest q (b ∷ bs) = pick (sameBytes (b .prefix) q) (gives (b .value)) (newest 
 unfoldable pub seenBy : Seen → Stated → Seen
 seenBy other (gives v) = pick (isEmpty v) other (bound v)
 seenBy other nowhere = other
-
-pub inside-part : (s : List ℕ) (a e : ℕ) → a ≤ e → e ≤ length s → inside s a e ≡ part s a e
-unfolding inside
-inside-part s a e h g = rw (le-leb a e h, le-leb e (length s) g)
 
 empty-same : (p : List ℕ) → eqb (length p) 0 ≡ sameBytes p []
 unfolding sameBytes

@@ -16,8 +16,8 @@ use Rattle.name.specs.Reserved.{xmlPrefix, xmlnsPrefix, xmlUri, isXml}
 use Rattle.name.specs.Bind.{reservedBind}
 use Rattle.name.specs.Declares.{opening, declaresOf, declaredPrefix}
 use Rattle.name.specs.Verdict.{isEmpty, isOther, verdictNamed, verdictOf}
-use Rattle.name.specs.declared.Declares.{Declares}
-use Rattle.name.specs.declared.Declares.the-variants.{Nothing, Default, Named}
+use Rattle.name.specs.declared.PrefixDeclaration.{PrefixDeclaration}
+use Rattle.name.specs.declared.PrefixDeclaration.the-variants.{Nothing, Default, Named}
 use Rattle.name.specs.declared.Verdict.the-variants.{No}
 use Rattle.name.proofs.Declared.{xml-eq, xml-uri-eq, default-exactly, named-exactly, nothing-exactly}
 use Rattle.name.proofs.Verdicts.{Allowed, yes-means, named-verdict, bind-own, bind-fine}
@@ -25,8 +25,8 @@ use Rattle.tag_step.specs.declared.Span.{Span}
 use Rattle.tag_step.specs.declared.Answer.{Answer}
 use Rattle.tag_step.specs.Read.{span}
 use Rattle.tag_parts.specs.Parts.{keyPart, valuePart}
-use Rattle.law_wellformed.specs.Grammar.{Quote, double, single, Attribute, textOf, Absent, Distinct}
-use Rattle.law_wellformed.specs.Expected.{nameStart, nameEnd, valueStart, valueEnd, next, inQuotes, attributesOf}
+use Rattle.law_wellformed.specs.Grammar.{Quote, double, single, Attribute, bodyText, Absent, Distinct}
+use Rattle.law_wellformed.specs.Expected.{nameStart, nameEnd, valueStartAt, valueEndAt, next, inQuotes, attributesOf}
 use Rattle.law_wellformed.specs.Expected as Due
 use Rattle.law_wellformed.proofs.Values.{body-lacks}
 use Rattle.law_wellformed.proofs.WellFormed.{unchecked-reads, due-parts}
@@ -148,7 +148,7 @@ module _ (x : NamespaceResolver) (bs : List Made) (h : Holds x bs) (own : newest
       (λ d. bound-after (appendOf whole p value x .resolver) p (append-holds x bs p value h d) e
       (λ r. ap (λ (l : List ℕ). sameBytes l (nameFor r)) k ∙ prefix-named p r (a .prefix-there)))
 
-  declared-by : (d : Declares) → declaresOf key ≡ d → isDone (declareOf whole d p value at x .answer) ≡ true → After (declareOf whole d p value at x .resolver) bs (oneGives key value)
+  declared-by : (d : PrefixDeclaration) → declaresOf key ≡ d → isDone (declareOf whole d p value at x .answer) ≡ true → After (declareOf whole d p value at x .resolver) bs (oneGives key value)
   unfolding declareOf judgeOf settleOf isXml sameBytes xmlPrefix bytes bytesFrom
   declared-by Nothing e d = same-after (λ q s. absurd (true≢false (sym s ∙ nothing-named key q e)))
   declared-by Default e d =
@@ -193,7 +193,7 @@ module _ (s : List ℕ) where
   taken [] o x bs names values distinct verdicts h own d = record { list = bs; holds = h; own = own; newer = λ q. refl }
   taken (a ∷ more) o x bs names values distinct verdicts h own d =
       let k = span (nameStart o a) (nameEnd o a) in
-      let v = span (valueStart o a) (valueEnd o a) in
+      let v = span (valueStartAt o a) (valueEndAt o a) in
       let z = inQuotes (a .quote) k v in
       let later = declareAll whole (due (next o a) more) in
       let ns : keyPart s z ∷ map (keyPart s) (attributesOf (next o a) more) ≡ a .name ∷ map (λ (b : Attribute). b .name) more = names in
@@ -222,11 +222,11 @@ push-done x s from =
 
 -- A push that is not refused binds what the tag declares.
 pub push-binds : (t : Tag) → FineTag t → (x : NamespaceResolver) (bs : List Made) → Holds x bs → newest xmlPrefix bs ≡ gives xmlUri →
-    let c = pushOf (t .name ++ textOf (t .body)) (length (t .name)) x in
+    let c = pushOf (t .name ++ bodyText (t .body)) (length (t .name)) x in
     c .answer ≡ Done → After (c .resolver) bs (λ q. givenBy (nameFor q) (t .body .attributes))
 unfolding tagAnswers
 push-binds t fine x bs h own done =
-    let s = t .name ++ textOf (t .body) in
+    let s = t .name ++ bodyText (t .body) in
     let d : isDone (pushOf s (length (t .name)) x .answer) ≡ true = ap isDone done in
     let reads = unchecked-reads (t .name) (t .body) (body-lacks (t .body) (fine .well-formed)) false in
     let p = push-done x s (length (t .name)) d in

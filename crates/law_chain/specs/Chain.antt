@@ -13,7 +13,7 @@ use Rattle.name.specs.Verdict.{isEmpty, verdictOf}
 use Rattle.name.specs.declared.Colon.{Colon}
 use Rattle.name.specs.declared.Colon.the-variants.{At, Nowhere}
 use Rattle.name.specs.declared.Verdict.the-variants.{No}
-use Rattle.law_wellformed.specs.Grammar.{Attribute, Body, textOf, WellFormed, Distinct}
+use Rattle.law_wellformed.specs.Grammar.{Attribute, Body, bodyText, WellFormed, Distinct}
 use Rattle.scope_table.specs.Table.{freshOf}
 use Rattle.scope_table.specs.Answer.{changed}
 use Rattle.scope_table.specs.declared.Changed.{Changed}
@@ -33,7 +33,7 @@ pub record Tag : Type 0 where
 -- and leaves. The attributes of a tag begin where its name ends.
 unfoldable pub pushedOf : (limit : ℕ) → List Tag → Changed
 pushedOf limit [] = changed Done (limitedOf limit freshOf)
-pushedOf limit (t ∷ outer) = pushOf (t .name ++ textOf (t .body)) (length (t .name)) (pushedOf limit outer .resolver)
+pushedOf limit (t ∷ outer) = pushOf (t .name ++ bodyText (t .body)) (length (t .name)) (pushedOf limit outer .resolver)
 
 -- no push is refused
 unfoldable pub NoneRefused : (limit : ℕ) → List Tag → Type 0

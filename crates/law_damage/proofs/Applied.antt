@@ -8,7 +8,7 @@ use native.Mathlib.Omega.{arith}
 use lib.ListN.{length, getD}
 use lib.Dec.{leb}
 use borrow.Author.Tests.{leb-true}
-use Rattle.scan.specs.First.{stopOr, firstOf, firstTo, firstFrom}
+use Rattle.scan.specs.First.{firstOf, firstTo, firstFrom}
 use Rattle.scan.specs.Bytes.{isSpace, notSpace, endsKey, isByte, part, sameBytes, bytesFrom, bytes}
 use Rattle.scan.proofs.Laws.{first}
 use Rattle.tag_keys.specs.Keys.{keyGood, keyBad, countGood, tableGood, nameAt, sameKey, oldestOf, earlierOf, checkedBy, checkedOf, writtenBy, countBy}
@@ -16,12 +16,12 @@ use Rattle.tag_keys.proofs.Laws.{keys-none}
 use Rattle.tag_step.specs.declared.Answer.the-variants.{SingleQ, ExpectedQuote, UnquotedValue, Duplicated}
 use Rattle.tag_step.specs.declared.IterState.{IterState}
 use Rattle.tag_step.specs.declared.Step.{Step}
-use Rattle.tag_step.specs.Read.{span, isAt, isQuote, skipTo, skipOf, recoverOf, keyEq, keyTo, keyFrom, keyAt, quoted, closedOf, quotedTo, quotedOf, unquotedTo, otherOf, valueIn, valueFrom, valueAt}
+use Rattle.tag_step.specs.Read.{span, isAt, isQuote, skipTo, skipOf, recoverOf, keyEq, keyTo, keyFrom, keyAt, quoted, closedOf, quotedTo, quotedOf, unquotedTo, otherOf, valueBy, valueFrom, valueAt}
 use Rattle.tag_step.specs.Next.{checkOf, keptBy, placeAt, bareBy, bareTo, bareOf, valuedBy, valuedTo, valuedOf, readKey, readAt, stepFrom, stepOf, placeGood, keysOf, stateGood, noKeys, badReading, leaves, nextOf, opened}
 use Rattle.tag_step.specs.Run.{isEnd, consUnless, runOf, answersOf}
 use Rattle.tag_step.specs.Look.{lookIn, lookFrom, lookValue, lookBy, lookKey, lookAt, lookStart, lookOf}
 use Rattle.tag_step.specs.Numbers.{numbersOf}
-use Rattle.law_damage.specs.Damage.{Marked, kept, struck, was, whole, cuts, damaged, added, taken, moved, moveAnswer, becomes, IsRun, AllFit, Hurt}
+use Rattle.law_damage.specs.Damage.{Marked, kept, struck, was, wholeValue, cuts, damaged, added, takenOut, moved, moveAnswer, becomes, IsRun, AllFit, Hurt}
 use Rattle.law_damage.specs.Stable.{Agree, Before, lookNext}
 use Rattle.law_damage.proofs.Theorem.{damage-moves, opened-none}
 use Rattle.law_damage.proofs.Stable.{next-stable, grown}
@@ -54,11 +54,11 @@ marks =
     ∷ []
 
 marked : map was marks ≡ answersOf tag start
-unfolding stopOr firstOf firstTo firstFrom isSpace notSpace endsKey isByte part sameBytes bytesFrom bytes keyGood keyBad countGood tableGood nameAt sameKey oldestOf earlierOf checkedBy checkedOf writtenBy countBy isAt isQuote skipTo skipOf recoverOf keyEq keyTo keyFrom keyAt quoted closedOf quotedTo quotedOf unquotedTo otherOf valueIn valueFrom valueAt checkOf keptBy placeAt bareBy bareTo bareOf valuedBy valuedTo valuedOf readKey readAt stepFrom stepOf placeGood keysOf stateGood noKeys badReading leaves nextOf opened isEnd consUnless runOf answersOf was
+unfolding firstOf firstTo firstFrom isSpace notSpace endsKey isByte part sameBytes bytesFrom bytes keyGood keyBad countGood tableGood nameAt sameKey oldestOf earlierOf checkedBy checkedOf writtenBy countBy isAt isQuote skipTo skipOf recoverOf keyEq keyTo keyFrom keyAt quoted closedOf quotedTo quotedOf unquotedTo otherOf valueBy valueFrom valueAt checkOf keptBy placeAt bareBy bareTo bareOf valuedBy valuedTo valuedOf readKey readAt stepFrom stepOf placeGood keysOf stateGood noKeys badReading leaves nextOf opened isEnd consUnless runOf answersOf was
 marked = refl
 
 fits : AllFit tag (cuts marks)
-unfolding AllFit cuts whole stopOr firstOf firstTo firstFrom isSpace isQuote bytes bytesFrom
+unfolding AllFit cuts wholeValue firstOf firstTo firstFrom isSpace isQuote bytes bytesFrom
 fits = (
   record { run = run-of (bytes "z") refl refl refl; after = λ _. refl },
   (record { run = run-of (bytes "yyyyy") refl refl refl; after = λ _. refl }, tt),
@@ -69,14 +69,14 @@ hurt = damage-moves tag start marks (opened-none 0 true) marked fits
 
 -- What the theorem says of the damaged tag: the struck ones are 3, at their runs; what follows moves by -3, then by -1.
 pub damage-example : answersOf (bytes "a=z b='3' a=\"x\" c=yyyyy d=\"") start ≡ UnquotedValue 2 ∷ SingleQ (span 4 5) (span 7 8) ∷ Duplicated 10 0 ∷ UnquotedValue 18 ∷ ExpectedQuote 27 34 ∷ []
-unfolding cuts whole damaged added taken moved moveAnswer becomes part bytes bytesFrom
+unfolding cuts wholeValue damaged added takenOut moved moveAnswer becomes part bytes bytesFrom
 damage-example = hurt .answers
 
 -- Stability.
 
 -- Whatever follows, the step is the same: it looks as far as the closing quote.
 pub stable-example : (u : List ℕ) → nextOf (bytes "a=\"1\" " ++ u) start ≡ nextOf (bytes "a=\"1\" ") start
-unfolding stopOr firstOf firstTo firstFrom isSpace notSpace endsKey isByte part sameBytes bytesFrom bytes keyGood keyBad countGood tableGood nameAt sameKey oldestOf earlierOf checkedBy checkedOf isAt isQuote skipTo skipOf recoverOf keyEq keyTo keyFrom keyAt checkOf placeGood keysOf noKeys opened lookIn lookFrom lookValue lookBy lookKey lookAt lookStart lookOf
+unfolding firstOf firstTo firstFrom isSpace notSpace endsKey isByte part sameBytes bytesFrom bytes keyGood keyBad countGood tableGood nameAt sameKey oldestOf earlierOf checkedBy checkedOf isAt isQuote skipTo skipOf recoverOf keyEq keyTo keyFrom keyAt checkOf placeGood keysOf noKeys opened lookIn lookFrom lookValue lookBy lookKey lookAt lookStart lookOf
 stable-example u = next-stable (bytes "a=\"1\" ") (bytes "a=\"1\" " ++ u) 6 start (grown (bytes "a=\"1\" ") u) (record { keys = keys-none (start .starts) (start .ends) 6; place = refl }) (omega arith)
 
 -- The last byte that is looked at has to be shared: `a=1` and `a='1'` share two, the step looks at the third.
@@ -90,11 +90,11 @@ shared = record { in-s = omega arith; in-t = omega arith; byte = by } where
   by (suc (suc k)) h = absurd (omega arith)
 
 differ : numbersOf (nextOf (bytes "a='1'") start .answer) ≡ numbersOf (nextOf (bytes "a=1") start .answer) → ⊥
-unfolding numbersOf stopOr firstOf firstTo firstFrom isSpace notSpace endsKey isByte part sameBytes bytesFrom bytes keyGood keyBad countGood tableGood nameAt sameKey oldestOf earlierOf checkedBy checkedOf writtenBy countBy isAt isQuote skipTo skipOf recoverOf keyEq keyTo keyFrom keyAt quoted closedOf quotedTo quotedOf unquotedTo otherOf valueIn valueFrom valueAt checkOf keptBy placeAt bareBy bareTo bareOf valuedBy valuedTo valuedOf readKey readAt stepFrom stepOf placeGood keysOf stateGood noKeys badReading leaves nextOf opened
+unfolding numbersOf firstOf firstTo firstFrom isSpace notSpace endsKey isByte part sameBytes bytesFrom bytes keyGood keyBad countGood tableGood nameAt sameKey oldestOf earlierOf checkedBy checkedOf writtenBy countBy isAt isQuote skipTo skipOf recoverOf keyEq keyTo keyFrom keyAt quoted closedOf quotedTo quotedOf unquotedTo otherOf valueBy valueFrom valueAt checkOf keptBy placeAt bareBy bareTo bareOf valuedBy valuedTo valuedOf readKey readAt stepFrom stepOf placeGood keysOf stateGood noKeys badReading leaves nextOf opened
 differ e = let z : _≡_ {A = ℕ} 102 3 = cc in omega arith
 
 pub stable-needs-less : ((s t : List ℕ) (m : ℕ) (st : IterState) → Agree s t m → Before s m st → lookNext s st ≤ m → nextOf t st ≡ nextOf s st) → ⊥
-unfolding stopOr firstOf firstTo firstFrom isSpace notSpace endsKey isByte part sameBytes bytesFrom bytes keyGood keyBad countGood tableGood nameAt sameKey oldestOf earlierOf checkedBy checkedOf isAt isQuote skipTo skipOf recoverOf keyEq keyTo keyFrom keyAt checkOf placeGood keysOf noKeys opened lookIn lookFrom lookValue lookBy lookKey lookAt lookStart lookOf
+unfolding firstOf firstTo firstFrom isSpace notSpace endsKey isByte part sameBytes bytesFrom bytes keyGood keyBad countGood tableGood nameAt sameKey oldestOf earlierOf checkedBy checkedOf isAt isQuote skipTo skipOf recoverOf keyEq keyTo keyFrom keyAt checkOf placeGood keysOf noKeys opened lookIn lookFrom lookValue lookBy lookKey lookAt lookStart lookOf
 stable-needs-less f =
     differ (ap (λ (x : Step). numbersOf (x .answer))
     (f (bytes "a=1") (bytes "a='1'") 2 start shared (record { keys = keys-none (start .starts) (start .ends) 2; place = refl }) (omega arith)))

@@ -24,8 +24,8 @@ use Rattle.tag_step.specs.Run.{consUnless, runFrom}
 use Rattle.tag_step.proofs.Paths.{next-from}
 use Rattle.tag_step.proofs.Whole.{KeyBy, at-in, StartIn, recover-in}
 use Rattle.tag_step.proofs.Ways.{value-ways, step-ways}
-use Rattle.tag_step.proofs.Progress.{StartPast, step-forward, resume-past}
-use Rattle.law_damage.specs.Damage.{Marked, kept, struck, was, Cut, whole, cuts, Apart}
+use Rattle.tag_step.proofs.Progress.{StartPast, read-forward, resume-past}
+use Rattle.law_damage.specs.Damage.{Marked, kept, struck, was, Cut, wholeValue, cuts, Apart}
 
 -- whether an answer is an attribute in quotes
 unfoldable isQuoted : Answer → Bool
@@ -137,8 +137,8 @@ uncons true a rest b bs e = let z : _≡_ {A = ℕ} 0 1 = cc in absurd (omega ar
 uncons false a rest b bs e = (refl, cc, cc)
 
 -- the cut of a closed value
-pub cut-closed : (value : Span) (v e : ℕ) (run : List ℕ) → value ≡ span (v + 1) e → whole value run ≡ record { at = v; to = e + 1; run = run }
-unfolding whole
+pub cut-closed : (value : Span) (v e : ℕ) (run : List ℕ) → value ≡ span (v + 1) e → wholeValue value run ≡ record { at = v; to = e + 1; run = run }
+unfolding wholeValue
 cut-closed value v e run b = let z : v + 1 - 1 ≡ v = omega arith in rw (b, z)
 
 pub apart-before : (len o w : ℕ) (cs : List Cut) → o ≤ w → Apart len w cs → Apart len o cs
@@ -155,18 +155,18 @@ unfolding Apart StartPast
 start-before len o (From w) cs a d = apart-before len o w cs (omega arith) d
 start-before len o Ended cs a d = subst (Apart len o) (sym d) tt
 
-pub nil-apart : (len : ℕ) (x : Start) → ApartStart len x []
+pub none-apart : (len : ℕ) (x : Start) → ApartStart len x []
 unfolding Apart
-nil-apart len (From o) = tt
-nil-apart len Ended = refl
+none-apart len (From o) = tt
+none-apart len Ended = refl
 
 -- a damaged step's cut stands before the later ones
 cut-apart : (s : List ℕ) (checks : Bool) (k : Keys) (o : ℕ) → o ≤ length s → (run : List ℕ) (cs : List Cut) (q : ℕ) (key value : Span)
     → quoted q key value ≡ readAt s false checks k o .answer → ApartStart (length s) (nextStart s checks k o) cs
-    → Apart (length s) o (whole value run ∷ cs)
+    → Apart (length s) o (wholeValue value run ∷ cs)
 unfolding Apart closedOf
 cut-apart s checks k o h run cs q key value =
-    read-cut s checks k o h q key value (λ (x : Reading). ApartStart (length s) (recoverOf s (x .place)) cs → Apart (length s) o (whole value run ∷ cs))
+    read-cut s checks k o h q key value (λ (x : Reading). ApartStart (length s) (recoverOf s (x .place)) cs → Apart (length s) o (wholeValue value run ∷ cs))
     (λ key' eq v e cl same d.
     let ord = closed-order cl in
     let l = cl .e-in in
@@ -174,7 +174,7 @@ cut-apart s checks k o h run cs q key value =
 
 -- reading goes on past where a step began
 pub read-past : (s : List ℕ) (checks : Bool) (k : Keys) (o : ℕ) → o ≤ length s → StartPast (length s) o (nextStart s checks k o)
-read-past s checks k o h = resume-past s o _ (step-forward s false checks k o h)
+read-past s checks k o h = resume-past s o _ (read-forward s false checks k o h)
 
 chosen : (s : List ℕ) (checks : Bool) (k : Keys) (o : ℕ) → o ≤ length s → (m : Marked) (ms : List Marked)
     → was m ≡ readAt s false checks k o .answer → ApartStart (length s) (nextStart s checks k o) (cuts ms)
@@ -186,11 +186,11 @@ chosen s checks k o h (struck q key value run) ms e d = cut-apart s checks k o h
 pub cuts-apart : (n : ℕ) (s : List ℕ) (checks : Bool) (k : Keys) (x : Start) (ms : List Marked) → StartIn (length s) x
     → map was ms ≡ runFrom n s false checks k x → ApartStart (length s) x (cuts ms)
 unfolding runFrom cuts StartIn
-cuts-apart zero s checks k x [] i e = nil-apart (length s) x
+cuts-apart zero s checks k x [] i e = none-apart (length s) x
 cuts-apart zero s checks k x (m ∷ ms) i e = let z : _≡_ {A = ℕ} 0 1 = cc in absurd (omega arith)
-cuts-apart (suc n) s checks k Ended [] i e = nil-apart (length s) Ended
+cuts-apart (suc n) s checks k Ended [] i e = none-apart (length s) Ended
 cuts-apart (suc n) s checks k Ended (m ∷ ms) i e = let z : _≡_ {A = ℕ} 0 1 = cc in absurd (omega arith)
-cuts-apart (suc n) s checks k (From o) [] i e = nil-apart (length s) (From o)
+cuts-apart (suc n) s checks k (From o) [] i e = none-apart (length s) (From o)
 cuts-apart (suc n) s checks k (From o) (m ∷ ms) i e =
     let u = uncons _ _ _ _ _ e in
     chosen s checks k o i m ms (u .1) (cuts-apart n s checks (nextKeys s checks k o) (nextStart s checks k o) ms (recover-in s (readAt s false checks k o .place)) (u .2))

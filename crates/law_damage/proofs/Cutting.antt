@@ -13,7 +13,7 @@ use Rattle.scan.specs.First.{pick}
 use Rattle.scan.specs.Bytes.{part}
 use Rattle.scan.proofs.Move.{Window, window-as}
 use Rattle.scan.proofs.Lists.{part-length, part-at}
-use Rattle.law_damage.specs.Damage.{Cut, damaged, added, taken, moved, Apart, Outside}
+use Rattle.law_damage.specs.Damage.{Cut, damaged, added, takenOut, moved, Apart, Outside}
 use Rattle.law_damage.proofs.Cuts.{apart-before}
 use Rattle.law_damage.proofs.Sim.{Rel, advance}
 
@@ -25,28 +25,28 @@ after : (x k n : ℕ) → x ≤ k → pick (leb x k) n 0 ≡ n
 after x k n h = rw (le-leb x k h)
 
 module _ (c : Cut) (cs : List Cut) (k : ℕ) where
-  cut-before : k < c .to → (added cs k ≡ 0) × (taken cs k ≡ 0) → (added (c ∷ cs) k ≡ 0) × (taken (c ∷ cs) k ≡ 0)
-  unfolding added taken
+  cut-before : k < c .to → (added cs k ≡ 0) × (takenOut cs k ≡ 0) → (added (c ∷ cs) k ≡ 0) × (takenOut (c ∷ cs) k ≡ 0)
+  unfolding added takenOut
   cut-before h later = (omega (arith, later .0, before (c .to) k (length (c .run)) h), omega (arith, later .1, before (c .to) k (c .to - c .at) h))
 
-  cut-after : c .to ≤ k → (added (c ∷ cs) k ≡ length (c .run) + added cs k) × (taken (c ∷ cs) k ≡ (c .to - c .at) + taken cs k)
-  unfolding added taken
+  cut-after : c .to ≤ k → (added (c ∷ cs) k ≡ length (c .run) + added cs k) × (takenOut (c ∷ cs) k ≡ (c .to - c .at) + takenOut cs k)
+  unfolding added takenOut
   cut-after h = (omega (arith, after (c .to) k (length (c .run)) h), omega (arith, after (c .to) k (c .to - c .at) h))
 
 -- nothing changes before the cuts
-pub nothing-before : (l o k : ℕ) (cs : List Cut) → Apart l o cs → k ≤ o → (added cs k ≡ 0) × (taken cs k ≡ 0)
-unfolding Apart added taken
+pub nothing-before : (l o k : ℕ) (cs : List Cut) → Apart l o cs → k ≤ o → (added cs k ≡ 0) × (takenOut cs k ≡ 0)
+unfolding Apart added takenOut
 nothing-before l o k [] d h = (refl, refl)
 nothing-before l o k (c ∷ cs) d h =
     let x : k < c .to = omega (arith, d .0, d .1) in
     cut-before c cs k x (nothing-before l (c .to) k cs (d .3) (omega arith))
 
 -- less is taken than stands before
-pub taken-less : (l o k : ℕ) (cs : List Cut) → Apart l o cs → o ≤ k → taken cs k + o ≤ k
-unfolding Apart taken
+pub taken-less : (l o k : ℕ) (cs : List Cut) → Apart l o cs → o ≤ k → takenOut cs k + o ≤ k
+unfolding Apart takenOut
 taken-less l o k [] d h = omega arith
 taken-less l o k (c ∷ cs) d h = by (leb (c .to) k) refl (λ g. taken-less l (c .to) k cs (d .3) g) where
-  by : (b : Bool) → leb (c .to) k ≡ b → (c .to ≤ k → taken cs k + c .to ≤ k) → (pick b (c .to - c .at) 0 + taken cs k) + o ≤ k
+  by : (b : Bool) → leb (c .to) k ≡ b → (c .to ≤ k → takenOut cs k + c .to ≤ k) → (pick b (c .to - c .at) 0 + takenOut cs k) + o ≤ k
   by true e ih = omega (arith, ih (leb-true (c .to) k e), d .0, d .1)
   by false e ih = omega (arith, leb-false (c .to) k e, nothing-before l (c .to) k cs (d .3) (omega (arith, leb-false (c .to) k e)) .1)
 
@@ -66,7 +66,7 @@ at-in out w rest i j e h = rw e (getD-append-add out (w ++ rest) j 0 ∙ List·g
 module _ (f : ℕ → ℕ) (s : List ℕ) where
   -- f moves what lies at or after p as the cuts say, p to the end of out
   abbrev pub Shifts : ℕ → ℕ → List Cut → Type 0
-  Shifts p n cs = (k : ℕ) → p ≤ k → f k + taken cs k + p ≡ k + added cs k + n
+  Shifts p n cs = (k : ℕ) → p ≤ k → f k + takenOut cs k + p ≡ k + added cs k + n
 
   rel-end : (t out : List ℕ) (p : ℕ) → p ≤ length s → t ≡ out ++ drop p s → ((k : ℕ) → p ≤ k → f k + p ≡ k + length out)
       → Window f s t p (suc (length s))
@@ -121,7 +121,7 @@ module _ (f : ℕ → ℕ) (s : List ℕ) where
       omega (arith, sh k lo) in
       let out₂ = out ++ (part s p (c .at) ++ c .run) in
       let l₂ : length out₂ ≡ length out + ((c .at - p) + length (c .run)) = simp length-append (omega arith) in
-      let two : (k : ℕ) → c .to ≤ k → f k + taken cs k + c .to ≡ k + added cs k + length out₂ = λ k lo.
+      let two : (k : ℕ) → c .to ≤ k → f k + takenOut cs k + c .to ≡ k + added cs k + length out₂ = λ k lo.
       let some = cut-after c cs k lo in
       omega (arith, sh k (omega arith)) in
       let none = nothing-before (length s) (c .to) (c .to) cs (d .3) (omega arith) in (

@@ -23,12 +23,12 @@ use Rattle.tag_step.specs.Next.{Keys, Reading, reading, checkOf, keptBy, valued
 use Rattle.tag_step.specs.Run.{isEnd, consUnless, runFrom}
 use Rattle.tag_step.proofs.Paths.{next-from, value-bad}
 use Rattle.tag_step.proofs.Whole.{StartIn, recover-in}
-use Rattle.tag_step.proofs.Progress.{StartPast, step-forward}
+use Rattle.tag_step.proofs.Progress.{StartPast, read-forward}
 use Rattle.tag_step.proofs.Run.{run-end, run-ended}
-use Rattle.law_damage.specs.Damage.{Marked, kept, struck, was, Cut, whole, cuts, Fits, AllFit, moveSpan, moveAnswer, becomes, Apart}
+use Rattle.law_damage.specs.Damage.{Marked, kept, struck, was, Cut, wholeValue, cuts, Fits, AllFit, moveSpan, moveAnswer, becomes, Apart}
 use Rattle.law_damage.proofs.Recorded.{KeysLike, moveChecked}
 use Rattle.law_damage.proofs.Step.{moveStart, startAt, after-in, key-move, recover-move, ReadLike, checks-move, keeps-move, read-move, read-stops}
-use Rattle.law_damage.proofs.Cuts.{Closed, closed-order, read-cut, nextStart, nextKeys, uncons, cut-closed, ApartStart, nil-apart, read-past, cuts-apart}
+use Rattle.law_damage.proofs.Cuts.{Closed, closed-order, read-cut, nextStart, nextKeys, uncons, cut-closed, ApartStart, none-apart, read-past, cuts-apart}
 
 -- the run of a cut stands in t
 pub record Put (f : ℕ → ℕ) (t : List ℕ) (c : Cut) : Type 0 where
@@ -178,14 +178,14 @@ module _ (f : ℕ → ℕ) (s t : List ℕ) (checks : Bool) where
       let p = readAt s false checks ks o .place in
       let far = bound-start (length s) (nextStart s checks ks o) cs (recover-in s p) d in
       let y = read-move w false checks like (omega (arith, read-stops s checks ks o (w .inside))) in
-      (y, ap (recoverOf t) (y .place) ∙ recover-move w p (after-in s o p (step-forward s false checks ks o (w .inside))) far)
+      (y, ap (recoverOf t) (y .place) ∙ recover-move w p (after-in s o p (read-forward s false checks ks o (w .inside))) far)
 
   -- the end comes in both
   at-end : (n : ℕ) (ks kt : Keys) (o : ℕ) → KeysLike f s t ks kt → Rel f s t o [] → isEnd (readAt s false checks ks o .answer) ≡ true
       → runT (suc n) kt (From (f o)) ≡ []
   unfolding runFrom consUnless
   at-end n ks kt o like rel e =
-      let y = step-like ks kt o [] like rel (nil-apart (length s) (nextStart s checks ks o)) in
+      let y = step-like ks kt o [] like rel (none-apart (length s) (nextStart s checks ks o)) in
       rw (y .0 .answer, end-moved f (readAt s false checks ks o .answer), e)
 
   module _ (n : ℕ) (ms : List Marked) (later : Later n ms) where
@@ -232,19 +232,19 @@ module _ (f : ℕ → ℕ) (s t : List ℕ) (checks : Bool) where
             after-hurt (keptBy checks ks key (checkOf s checks ks key)) _ (e + 1) keys (rel .2) rest (ltb (e + 1) (length s)) refl,
           )
 
-      struck-hurt : (q : ℕ) (key value : Span) (run : List ℕ) → o ≤ length s → Rel f s t o (whole value run ∷ cuts ms)
-          → Fits s (whole value run)
+      struck-hurt : (q : ℕ) (key value : Span) (run : List ℕ) → o ≤ length s → Rel f s t o (wholeValue value run ∷ cuts ms)
+          → Fits s (wholeValue value run)
           → quoted q key value ≡ readAt s false checks ks o .answer
           → map was ms ≡ runS n (nextKeys s checks ks o) (nextStart s checks ks o)
           → ApartStart (length s) (nextStart s checks ks o) (cuts ms)
-          → runT (suc n) kt (From (f o)) ≡ UnquotedValue (f (whole value run .at)) ∷ map (becomes f) ms
+          → runT (suc n) kt (From (f o)) ≡ UnquotedValue (f (wholeValue value run .at)) ∷ map (becomes f) ms
       unfolding closedOf
       struck-hurt q key value run h rel fits =
           read-cut s checks ks o h q key value
           (λ (x : Reading).
           map was ms ≡ runS n (x .keys) (recoverOf s (x .place))
           → ApartStart (length s) (recoverOf s (x .place)) (cuts ms)
-          → runT (suc n) kt (From (f o)) ≡ UnquotedValue (f (whole value run .at)) ∷ map (becomes f) ms)
+          → runT (suc n) kt (From (f o)) ≡ UnquotedValue (f (wholeValue value run .at)) ∷ map (becomes f) ms)
           (λ k eq v e cl same rest d.
           let l = cl .e-in in
           let z = sym (next-from s (e + 1) (omega arith)) in
@@ -260,7 +260,7 @@ module _ (f : ℕ → ℕ) (s t : List ℕ) (checks : Bool) where
       cuts-apart n s checks (nextKeys s checks ks o) (nextStart s checks ks o) ms (recover-in s (readAt s false checks ks o .place)) rest
 
   pub sim : (n : ℕ) (ms : List Marked) → AllFit s (cuts ms) → Later n ms
-  unfolding runFrom was becomes cuts AllFit whole
+  unfolding runFrom was becomes cuts AllFit wholeValue
   sim zero [] al ks kt o like rel e = refl
   sim zero (m ∷ ms) al ks kt o like rel e = let z : _≡_ {A = ℕ} 0 1 = cc in absurd (omega arith)
   sim (suc n) [] al ks kt o like rel e = at-end n ks kt o like rel (unless-nil _ _ _ e)
@@ -269,5 +269,5 @@ module _ (f : ℕ → ℕ) (s t : List ℕ) (checks : Bool) where
       kept-moves n ms (sim n ms al) ks kt o like a rel (u .0) (u .1) (u .2) (next-apart n ms ks o (u .2))
   sim (suc n) (struck q key value run ∷ ms) al ks kt o like rel e =
       let u = uncons _ _ _ _ _ e in
-      let i = window-of f s t o (whole value run ∷ cuts ms) rel .inside in
+      let i = window-of f s t o (wholeValue value run ∷ cuts ms) rel .inside in
       struck-hurt n ms (sim n ms (al .1)) ks kt o like q key value run i rel (al .0) (u .1) (u .2) (next-apart n ms ks o (u .2))

@@ -24,7 +24,7 @@ use Rattle.tag_step.specs.Run.{isEnd, consUnless, runOf, answersOf, runFrom, an
 use Rattle.tag_step.proofs.Whole.{StartIn, starts-in, next-bad}
 use Rattle.tag_step.proofs.Good.{Sized, next-stays-good, next-sized}
 use Rattle.tag_step.proofs.Run.{left, from-more, lent-resumes, run-lent, answers-resume, run-ended}
-use Rattle.law_damage.specs.Damage.{NoneRecorded, Marked, kept, struck, was, Cut, cuts, damaged, AllFit, added, taken, moved, moveAnswer, movePlace, becomes, Apart, Stands, Hurt, DamageMoves}
+use Rattle.law_damage.specs.Damage.{NoneRecorded, Marked, kept, struck, was, Cut, cuts, damaged, AllFit, added, takenOut, moved, moveAnswer, movePlace, becomes, Apart, RunsStand, Hurt, DamageMoves}
 use Rattle.law_damage.proofs.Recorded.{like-none}
 use Rattle.law_damage.proofs.Step.{moveStart, startAt, recover-move}
 use Rattle.law_damage.proofs.Begin.{position, begins, good-move}
@@ -43,8 +43,8 @@ place-stays len o cs (SkipEqValue x) d h = ap SkipEqValue (moved-before len o x 
 -- What holds of the cuts.
 
 module _ (f : ℕ → ℕ) (s t : List ℕ) where
-  runs-stand : (o : ℕ) (cs : List Cut) → Rel f s t o cs → Stands f t cs
-  unfolding Rel Stands
+  runs-stand : (o : ℕ) (cs : List Cut) → Rel f s t o cs → RunsStand f t cs
+  unfolding Rel RunsStand
   runs-stand o [] r = tt
   runs-stand o (c ∷ cs) r =
       let p = r .1 in
@@ -53,7 +53,7 @@ module _ (f : ℕ → ℕ) (s t : List ℕ) where
       let n : length (part t (f (c .at)) (f (c .at) + length (c .run))) ≡ length (c .run) = omega arith in
       (ext-getD 0 _ _ n (λ i h. part-at t (f (c .at)) (f (c .at) + length (c .run)) i (omega arith) ∙ p .bytes i (omega arith)), runs-stand (c .to) cs (r .2))
 
-signed-by : (len o : ℕ) (cs : List Cut) → Apart len o cs → (p : ℕ) → moved cs p + taken cs p ≡ p + added cs p
+signed-by : (len o : ℕ) (cs : List Cut) → Apart len o cs → (p : ℕ) → moved cs p + takenOut cs p ≡ p + added cs p
 unfolding moved
 signed-by len o cs d p = omega (arith, taken-less len 0 p cs (apart-before len 0 o cs (omega arith) d) (omega arith))
 
@@ -61,7 +61,7 @@ signed-by len o cs d p = omega (arith, taken-less len 0 p cs (apart-before len 0
 
 nothing-cut : (s : List ℕ) (st : IterState) (ms : List Marked) → cuts ms ≡ [] → ((f : ℕ → ℕ) → map (becomes f) ms ≡ map was ms)
     → map was ms ≡ answersOf s st → Hurt s st ms
-unfolding Apart Stands damaged
+unfolding Apart RunsStand damaged
 nothing-cut s st ms d same e =
     record {
       answers = rw d (sym (same (moved []) ∙ e));

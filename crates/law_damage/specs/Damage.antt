@@ -57,14 +57,14 @@ pub record Cut : Type 0 where
 --         ||    ||
 --        at|  end|
 --          start to
-unfoldable pub whole : Span → List ℕ → Cut
-whole value run = record { at = value .start - 1; to = value .end + 1; run = run }
+unfoldable pub wholeValue : Span → List ℕ → Cut
+wholeValue value run = record { at = value .start - 1; to = value .end + 1; run = run }
 
 -- the cuts, from left to right
 unfoldable pub cuts : List Marked → List Cut
 cuts [] = []
 cuts (kept a ∷ ms) = cuts ms
-cuts (struck q key value run ∷ ms) = whole value run ∷ cuts ms
+cuts (struck q key value run ∷ ms) = wholeValue value run ∷ cuts ms
 
 -- "replace each": the tag from o on, with the cuts made
 unfoldable pub damaged : List ℕ → ℕ → List Cut → List ℕ
@@ -93,14 +93,14 @@ unfoldable pub added : List Cut → ℕ → ℕ
 added [] p = 0
 added (c ∷ cs) p = pick (leb (c .to) p) (length (c .run)) 0 + added cs p
 
-unfoldable pub taken : List Cut → ℕ → ℕ
-taken [] p = 0
-taken (c ∷ cs) p = pick (leb (c .to) p) (c .to - c .at) 0 + taken cs p
+unfoldable pub takenOut : List Cut → ℕ → ℕ
+takenOut [] p = 0
+takenOut (c ∷ cs) p = pick (leb (c .to) p) (c .to - c .at) 0 + takenOut cs p
 
--- "moved by the signed sum": the sum is `added` less `taken`, and may be below 0. The difference here is never cut off
+-- "moved by the signed sum": the sum is `added` less `takenOut`, and may be below 0. The difference here is never cut off
 -- (`signed`, below).
 unfoldable pub moved : List Cut → ℕ → ℕ
-moved cs p = (p + added cs p) - taken cs p
+moved cs p = (p + added cs p) - takenOut cs p
 
 -- "each position": all numbers in an answer but refusal 4's quote byte
 abbrev pub moveSpan : (ℕ → ℕ) → Span → Span
@@ -140,9 +140,9 @@ Apart len o [] = Unit {0}
 Apart len o (c ∷ cs) = (o < c .at) × (c .at < c .to) × (c .to ≤ len) × Apart len (c .to) cs
 
 -- each run stands in t where its cut's first byte has moved to
-unfoldable pub Stands : (ℕ → ℕ) → List ℕ → List Cut → Type 0
-Stands f t [] = Unit {0}
-Stands f t (c ∷ cs) = (part t (f (c .at)) (f (c .at) + length (c .run)) ≡ c .run) × Stands f t cs
+unfoldable pub RunsStand : (ℕ → ℕ) → List ℕ → List Cut → Type 0
+RunsStand f t [] = Unit {0}
+RunsStand f t (c ∷ cs) = (part t (f (c .at)) (f (c .at) + length (c .run)) ≡ c .run) × RunsStand f t cs
 
 -- p lies inside no cut
 unfoldable pub Outside : List Cut → ℕ → Type 0
@@ -153,8 +153,8 @@ pub record Hurt (s : List ℕ) (st : IterState) (ms : List Marked) : Type 0 wher
   -- one answer for each old one, in order
   pub answers : answersOf (damaged s 0 (cuts ms)) st ≡ map (becomes (moved (cuts ms))) ms
   -- the sum is signed
-  pub signed : (p : ℕ) → moved (cuts ms) p + taken (cuts ms) p ≡ p + added (cuts ms) p
-  pub stands : Stands (moved (cuts ms)) (damaged s 0 (cuts ms)) (cuts ms)
+  pub signed : (p : ℕ) → moved (cuts ms) p + takenOut (cuts ms) p ≡ p + added (cuts ms) p
+  pub stands : RunsStand (moved (cuts ms)) (damaged s 0 (cuts ms)) (cuts ms)
   pub apart : Apart (length s) 0 (cuts ms)
   -- "before it" is unambiguous: no answer has a position inside a cut, so that it does not matter where one would move
   pub clear : (f : ℕ → ℕ) → ((p : ℕ) → Outside (cuts ms) p → f p ≡ moved (cuts ms) p) → map (becomes f) ms ≡ map (becomes (moved (cuts ms))) ms

@@ -19,7 +19,7 @@ use Rattle.tag_keys.specs.declared.Earlier.{Earlier}
 use Rattle.tag_keys.specs.declared.Earlier.the-variants.{At, Nothing}
 use Rattle.tag_keys.specs.declared.Checked.{Checked}
 use Rattle.tag_keys.specs.declared.Checked.the-variants.{Fresh, Full}
-use Rattle.tag_keys.specs.Keys.{capacity, Room, nameAt, earlierOf, checkedBy, checkedOf, writtenBy, countBy}
+use Rattle.tag_keys.specs.Keys.{capacity, KeyRoom, nameAt, earlierOf, checkedBy, checkedOf, writtenBy, countBy}
 use Rattle.law_hashes.specs.Hash.{Hashes, unset, held, insert, Key, seeded, asked, hashedEarlierOf, Covers, crateEarlierOf, hashesAfter, Kept, crateChecksOf, checksOf}
 use Rattle.tag_keys.proofs.Laws.{earlier-none, room-stays}
 
@@ -118,7 +118,7 @@ module _ (h : List ℕ → ℕ) where
   asked-covers small (held s) tag starts ends count k = k .1
 
   -- Whatever the verdict, the set with the key's hash holds the hash of every name that is recorded then.
-  pub covers-after : (s : ℕ → Bool) (tag starts ends : List ℕ) (count from to : ℕ) (e : Earlier) → Room true starts ends → Covers h s tag starts ends count →
+  pub covers-after : (s : ℕ → Bool) (tag starts ends : List ℕ) (count from to : ℕ) (e : Earlier) → KeyRoom true starts ends → Covers h s tag starts ends count →
       let v = checkedBy count e in
       Covers h (insert s (h (part tag from to))) tag (writtenBy true v starts count from) (writtenBy true v ends count to) (countBy v count)
   unfolding checkedBy writtenBy countBy
@@ -143,7 +143,7 @@ module _ (h : List ℕ → ℕ) where
       by false = refl
 
     -- After each check the crate's set still holds the hash of every recorded name.
-    pub crate-way-keeps : Room true starts ends →
+    pub crate-way-keeps : KeyRoom true starts ends →
         let v = checkedOf tag true starts ends count from to in
         Kept h small (hashesAfter h small s tag starts ends count from to) tag (writtenBy true v starts count from) (writtenBy true v ends count to) (countBy v count)
     unfolding hashesAfter checkedOf
@@ -160,7 +160,7 @@ module _ (h : List ℕ → ℕ) where
           no-set small s tag starts ends count kept (leb-false small count e) (writtenBy true v starts count from) (writtenBy true v ends count to) (countBy v count)
 
   -- However many keys are checked one after another, each verdict of the crate's way is the plain one.
-  pub crate-run-agrees : (small : ℕ) (ks : List Key) (s : Hashes) (tag starts ends : List ℕ) (count : ℕ) → Kept h small s tag starts ends count → Room true starts ends → crateChecksOf h small ks s tag starts ends count ≡ checksOf ks tag starts ends count
+  pub crate-run-agrees : (small : ℕ) (ks : List Key) (s : Hashes) (tag starts ends : List ℕ) (count : ℕ) → Kept h small s tag starts ends count → KeyRoom true starts ends → crateChecksOf h small ks s tag starts ends count ≡ checksOf ks tag starts ends count
   unfolding crateChecksOf checksOf checkedOf
   crate-run-agrees small [] s tag starts ends count kept r = refl
   crate-run-agrees small (k ∷ ks) s tag starts ends count kept r =

@@ -7,19 +7,21 @@ use native.Mathlib.Omega.{arith}
 use lib.Dec.{leb}
 use lib.ListN.{length}
 use borrow.Author.Tests.{leb-true, leb-false, le-leb}
+use Rattle.scan.specs.Lists.{padTo}
+use Rattle.scan.proofs.Lists.{pad-length}
 use Rattle.scope_table.specs.Records.{rowAt}
 use Rattle.scope_table.specs.Table.{TEXT, NUMBERS, validOf}
-use Rattle.scope_table.specs.Lent.{padTo, standsFor, holdsOf, fitsOf, lentOf, formOf}
+use Rattle.scope_table.specs.Lent.{standsFor, holdsOf, fitsOf, lentOf, formOf}
 use Rattle.scope_table.specs.declared.Head.{Head}
 use Rattle.scope_table.specs.declared.NamespaceResolver.{NamespaceResolver}
 use Rattle.scope_table.specs.declared.Form.the-variants as Is
 use Rattle.scope_table.proofs.Lists.{and-left, and-right, and-take}
-use Rattle.scope_table.proofs.Pad.{pad-length, holds-beyond, holds-within, holds-is}
+use Rattle.scope_table.proofs.Pad.{holds-beyond, holds-within, holds-is}
 use Rattle.scope_table.proofs.Good.{valid-lent, form-good, ready}
 use Rattle.scope_table.proofs.Calls.{asks}
 use Rattle.scope_table.proofs.Full.{lent-again}
 use Rattle.law_scopes.specs.Calls.{callOf}
-use Rattle.law_lent.specs.Follows.{Left, Longer, AsksAgain, CallsAgain}
+use Rattle.law_lent.specs.Follows.{LentLeft, Longer, AsksAgain, CallsAgain}
 use Rattle.law_lent.proofs.Held.{call-left, call-more}
 
 -- what a list holds, a longer one holds
@@ -66,7 +68,7 @@ calls-again text records head good bytes numbers longer c =
     let rows = padTo numbers records in
     let s = stands-again text records head bytes numbers longer in
     let g = good-again text records head bytes numbers longer good in (
-      λ e. subst (λ (x : NamespaceResolver). Left more rows (callOf c x) (lentOf (callOf c) more rows head)) s (call-left more rows head g c (fitted true e)),
+      λ e. subst (λ (x : NamespaceResolver). LentLeft more rows (callOf c x) (lentOf (callOf c) more rows head)) s (call-left more rows head g c (fitted true e)),
       λ e. call-more more rows head g c (fitted false e),
     ) where
       fitted : (t : Bool) → fitsOf bytes numbers (callOf c (standsFor text records head) .resolver .head .used) (callOf c (standsFor text records head) .resolver .head .count) ≡ t →

@@ -7,10 +7,12 @@ use mathlib.Core.Logic.{_⊎_, inl, inr}
 use native.Mathlib.Omega.{arith}
 use lib.ListN.{length, take, drop}
 use lib.Seq.{length-take-le}
+use Rattle.scan.specs.Lists.{padTo}
+use Rattle.scan.proofs.Lists.{pad-length}
 use Rattle.scope_table.specs.Lists.{allZero, cut}
 use Rattle.scope_table.specs.Records.{rowAt}
 use Rattle.scope_table.specs.Table.{TEXT, NUMBERS, validOf}
-use Rattle.scope_table.specs.Lent.{padTo, standsFor, holdsOf, fitsOf, Given, given, lentOf, formOf}
+use Rattle.scope_table.specs.Lent.{standsFor, holdsOf, fitsOf, Given, given, lentOf, formOf}
 use Rattle.scope_table.specs.declared.Head.{Head}
 use Rattle.scope_table.specs.declared.NamespaceResolver.{NamespaceResolver}
 use Rattle.scope_table.specs.declared.Changed.{Changed}
@@ -19,13 +21,13 @@ use Rattle.scope_table.specs.declared.NamespaceResult.the-variants.{LendMore}
 use Rattle.scope_table.specs.declared.Form.the-variants as Is
 use Rattle.scope_table.proofs.Lists.{and-left, and-right, zeros-later, cut-zeros}
 use Rattle.scope_table.proofs.Rows.{rows-within}
-use Rattle.scope_table.proofs.Pad.{pad-length, holds-within}
-use Rattle.scope_table.proofs.Good.{formed-valid, valid-lent, form-good, ready}
+use Rattle.scope_table.proofs.Pad.{holds-within}
+use Rattle.scope_table.proofs.Good.{form-of, valid-lent, form-good, ready}
 use Rattle.scope_table.proofs.Calls.{changes, lends-more}
 use Rattle.law_scopes.specs.Calls.{Call, callOf}
 use Rattle.law_scopes.specs.Promises.{Proper, ValidStays}
 use Rattle.law_scopes.proofs.Valid.{valid-stays}
-use Rattle.law_lent.specs.Follows.{MemoryFor, Left, LentFollows}
+use Rattle.law_lent.specs.Follows.{MemoryFor, LentLeft, LentFollows}
 
 -- a list that is zeros from n on, cut at n and padded again
 pad-of-take : (m n : ℕ) (ys : List ℕ) → length ys ≡ m → n ≤ m → allZero (drop n ys) ≡ true → padTo m (take n ys) ≡ ys
@@ -44,9 +46,9 @@ module _ (bytes numbers : ℕ) (y : NamespaceResolver) (p : Proper y) where
       fitsOf bytes numbers (y .head .used) (y .head .count) ≡ true → MemoryFor text records y (left a)
   unfolding fitsOf
   held-kept text records a t r e =
-      let f = formed-valid y (p .valid) in
-      let b = holds-within TEXT bytes (y .head .used) (f .bounds .few-bytes) (and-left (holdsOf TEXT bytes (y .head .used)) _ e) in
-      let n = holds-within NUMBERS numbers (rowAt (y .head .count)) (rows-within (y .head .count) (f .bounds .few-records)) (and-right (holdsOf TEXT bytes (y .head .used)) _ e) in
+      let f = form-of y (p .valid) in
+      let b = holds-within TEXT bytes (y .head .used) (f .small) (and-left (holdsOf TEXT bytes (y .head .used)) _ e) in
+      let n = holds-within NUMBERS numbers (rowAt (y .head .count)) (rows-within (y .head .count) (f .few)) (and-right (holdsOf TEXT bytes (y .head .used)) _ e) in
       let lt = length-take-le bytes (y .text) (omega (arith, b .0, p .sized .text)) in
       let lr = length-take-le numbers (y .records) (omega (arith, n .0, p .sized .records)) in
       let et = pad-of-take TEXT bytes (y .text) (p .sized .text) (b .0) (zeros-later (y .text) (y .head .used) bytes (b .1) (f .rest-text)) in
@@ -79,12 +81,12 @@ module _ (text records : List ℕ) (head : Head) (good : formOf text records hea
     Held t = fitsOf (length text) (length records) (after .resolver .head .used) (after .resolver .head .count) ≡ t
 
     -- the memory holds what the call leaves
-    pub call-left : Held true → Left text records after (lentOf (callOf c) text records head)
+    pub call-left : Held true → LentLeft text records after (lentOf (callOf c) text records head)
     unfolding ValidStays
     call-left e =
         let y = after .resolver in
         let g = changes text records head (ready text records head good .fit) (callOf c) (after .answer) y (take (length text) (y .text)) (take (length records) (y .records)) refl e refl refl in
-        subst (λ (h : Given). Left text records after h) g
+        subst (λ (h : Given). LentLeft text records after h) g
         (record { answer = refl; kept = held-kept (length text) (length records) y (valid-stays (standsFor text records head) stands-proper c) text records (after .answer) refl refl e })
 
     -- or it does not
@@ -92,7 +94,7 @@ module _ (text records : List ℕ) (head : Head) (good : formOf text records hea
     call-more e = sym (lends-more text records head (ready text records head good .fit) (callOf c) (after .answer) (after .resolver) refl e)
 
   -- one of both
-  call-either : (c : Call) (t : Bool) → Held c t → (lentOf (callOf c) text records head ≡ given LendMore text records head) ⊎ Left text records (after c) (lentOf (callOf c) text records head)
+  call-either : (c : Call) (t : Bool) → Held c t → (lentOf (callOf c) text records head ≡ given LendMore text records head) ⊎ LentLeft text records (after c) (lentOf (callOf c) text records head)
   call-either c true e = inr (call-left c e)
   call-either c false e = inl (call-more c e)
 

@@ -8,6 +8,7 @@ use mathlib.Core.Logic.{⊎-elim}
 use native.Mathlib.Omega.{arith}
 use lib.ListN.{length, take}
 use Rattle.scan.specs.First.{pick}
+use Rattle.scan.proofs.Lists.{pad-take}
 use lib.Dec.{leb}
 use Rattle.scope_table.specs.Table.{TEXT, NUMBERS, freshOf}
 use Rattle.scope_table.specs.Answer.{changed}
@@ -17,29 +18,28 @@ use Rattle.scope_table.specs.declared.NamespaceResolver.{NamespaceResolver}
 use Rattle.scope_table.specs.declared.Changed.{Changed}
 use Rattle.scope_table.specs.declared.NamespaceResult.the-variants.{Done, LendMore, WrongLength}
 use Rattle.scope_table.specs.declared.Form.the-variants as Is
-use Rattle.scope_table.proofs.Pad.{pad-take}
 use Rattle.scope_table.proofs.Good.{ready}
 use Rattle.scope_table.proofs.Calls.{changes}
 use Rattle.scope_declare.specs.Declare.{popOf, limitedOf}
 use Rattle.scope_push.specs.Push.{pushOf}
 use Rattle.law_scopes.specs.Calls.{Call, push, setLimit, callOf, leftBy, answersBy}
-use Rattle.law_scopes.specs.Scopes.{none, standing}
+use Rattle.law_scopes.specs.Scopes.{noScopes, scopesAfter}
 use Rattle.law_scopes.specs.Promises.{Sums, PushPopReturns, ScopeSums, AnswersFollow}
 use Rattle.law_scopes.proofs.Valid.{fresh-proper}
 use Rattle.law_scopes.proofs.Returns.{push-pop-returns}
 use Rattle.law_scopes.proofs.Sums.{scope-sums, answers-follow}
 use Rattle.law_lent.specs.Run.{nextLent, lentBy, lentAnswers, Enough}
-use Rattle.law_lent.specs.Follows.{MemoryFor, Left, LentFollows, RunOn, LentLimit, LentRun, LentFresh, LentReached, LentPushPop}
+use Rattle.law_lent.specs.Follows.{MemoryFor, LentLeft, LentFollows, RunOn, LentLimit, LentRun, LentFresh, LentReached, LentPushPop}
 use Rattle.law_lent.proofs.Held.{held-kept, stands-proper, lent-follows}
 
 -- a call that does not ask for more
 pub left-of : (text records : List ℕ) (head : Head) → formOf text records head ≡ Is.Good → (c : Call) →
     (lentOf (callOf c) text records head .answer ≡ LendMore → ⊥) →
-    Left text records (callOf c (standsFor text records head)) (lentOf (callOf c) text records head)
+    LentLeft text records (callOf c (standsFor text records head)) (lentOf (callOf c) text records head)
 unfolding LentFollows
 left-of text records head good c never =
     ⊎-elim (λ (e : lentOf (callOf c) text records head ≡ given LendMore text records head). absurd (never (ap (λ (g : Given). g .answer) e)))
-    (λ (l : Left text records (callOf c (standsFor text records head)) (lentOf (callOf c) text records head)). l)
+    (λ (l : LentLeft text records (callOf c (standsFor text records head)) (lentOf (callOf c) text records head)). l)
     (lent-follows text records head good c)
 
 -- memory that stands for a resolver, and the calls from there
@@ -80,7 +80,7 @@ fresh-by : (text records : List ℕ) (head : Head) (lent holds : Bool) →
     fitsOf (length text) (length records) (freshOf .head .used) (freshOf .head .count) ≡ holds →
     let held = given Done (take (length text) (freshOf .text)) (take (length records) (freshOf .records)) (freshOf .head) in
     let g = pick lent (pick holds held (given LendMore text records head)) (given WrongLength text records head) in
-    g .answer ≡ Done → Left text records (changed Done freshOf) g
+    g .answer ≡ Done → LentLeft text records (changed Done freshOf) g
 fresh-by text records head true true f e =
     record { answer = refl; kept = held-kept (length text) (length records) freshOf fresh-proper text records Done refl refl f }
 fresh-by text records head true false f e =
@@ -101,7 +101,7 @@ unfolding LentReached LentFresh ScopeSums AnswersFollow
 lent-reached text records head e calls enough =
     let f = lent-fresh text records head e in
     let r = run-from calls text records freshOf (freshIn text records head) (f .kept) enough in
-    (subst (λ (x : NamespaceResolver). Sums x (standing calls none)) (sym (r .kept .stands)) (scope-sums calls), r .answers ∙ answers-follow calls, r .kept .ready)
+    (subst (λ (x : NamespaceResolver). Sums x (scopesAfter calls noScopes)) (sym (r .kept .stands)) (scope-sums calls), r .answers ∙ answers-follow calls, r .kept .ready)
 
 -- A push and a pop.
 

@@ -6,9 +6,10 @@ use mathlib.Core.Bool.{true, false}
 use mathlib.Core.List.{List}
 use mathlib.Core.Logic.{_⊎_}
 use lib.ListN.{length}
+use Rattle.scan.specs.Lists.{padTo}
 use Rattle.scope_table.specs.Table.{TEXT, NUMBERS, DEEPEST, headOf, resolverOf, freshOf}
 use Rattle.scope_table.specs.Answer.{changed}
-use Rattle.scope_table.specs.Lent.{padTo, standsFor, fitsOf, lent, Given, given, lentOf, freshIn, formOf}
+use Rattle.scope_table.specs.Lent.{standsFor, fitsOf, lent, Given, given, lentOf, freshIn, formOf}
 use Rattle.scope_table.specs.declared.Head.{Head}
 use Rattle.scope_table.specs.declared.NamespaceResolver.{NamespaceResolver}
 use Rattle.scope_table.specs.declared.Changed.{Changed}
@@ -17,7 +18,7 @@ use Rattle.scope_table.specs.declared.Form.the-variants as Is
 use Rattle.scope_declare.specs.Declare.{popOf}
 use Rattle.scope_push.specs.Push.{pushOf}
 use Rattle.law_scopes.specs.Calls.{Call, setLimit, callOf, leftBy, answersBy}
-use Rattle.law_scopes.specs.Scopes.{none, standing, answersIn}
+use Rattle.law_scopes.specs.Scopes.{noScopes, scopesAfter, answersIn}
 use Rattle.law_scopes.specs.Promises.{Sums}
 use Rattle.law_lent.specs.Run.{lentBy, lentAnswers, Enough}
 
@@ -29,7 +30,7 @@ pub record MemoryFor (text records : List ℕ) (x : NamespaceResolver) (g : Give
   pub ready : formOf (g .text) (g .records) (g .head) ≡ Is.Good
 
 -- What a call left on lent memory is what it leaves on a resolver: its answer, and memory for the resolver after it.
-pub record Left (text records : List ℕ) (c : Changed) (g : Given) : Type 0 where
+pub record LentLeft (text records : List ℕ) (c : Changed) (g : Given) : Type 0 where
   pub answer : g .answer ≡ c .answer
   pub kept : MemoryFor text records (c .resolver) g
 
@@ -39,7 +40,7 @@ unfoldable pub LentFollows : Type 0
 LentFollows =
     (text records : List ℕ) (head : Head) → formOf text records head ≡ Is.Good → (c : Call) →
     (lentOf (callOf c) text records head ≡ given LendMore text records head)
-    ⊎ Left text records (callOf c (standsFor text records head)) (lentOf (callOf c) text records head)
+    ⊎ LentLeft text records (callOf c (standsFor text records head)) (lentOf (callOf c) text records head)
 
 -- The limit of lent memory is set by its caller, in the head: that is the call that sets it.
 unfoldable pub LentLimit : Type 0
@@ -65,7 +66,7 @@ LentRun =
 unfoldable pub LentFresh : Type 0
 LentFresh =
     (text records : List ℕ) (head : Head) → freshIn text records head .answer ≡ Done →
-    Left text records (changed Done freshOf) (freshIn text records head)
+    LentLeft text records (changed Done freshOf) (freshIn text records head)
 
 -- So after any calls on it the counts are the sums over the declarations that were accepted and not popped since, every
 -- answer is the one that the list of those declarations gives, and the memory is ready.
@@ -74,8 +75,8 @@ LentReached =
     (text records : List ℕ) (head : Head) → freshIn text records head .answer ≡ Done →
     (calls : List Call) → Enough (lentAnswers calls (freshIn text records head)) →
     let g = lentBy calls (freshIn text records head) in
-    Sums (standsFor (g .text) (g .records) (g .head)) (standing calls none)
-    × (lentAnswers calls (freshIn text records head) ≡ answersIn calls none)
+    Sums (standsFor (g .text) (g .records) (g .head)) (scopesAfter calls noScopes)
+    × (lentAnswers calls (freshIn text records head) ≡ answersIn calls noScopes)
     × (formOf (g .text) (g .records) (g .head) ≡ Is.Good)
 
 -- A push and then a pop give back text, records and head as they were, every place of them, unless the push asks for more
@@ -127,6 +128,6 @@ CallsAgain =
     let more = padTo bytes text in
     let rows = padTo numbers records in
     (fitsOf bytes numbers (after .resolver .head .used) (after .resolver .head .count) ≡ true →
-    Left more rows after (lentOf (callOf c) more rows head))
+    LentLeft more rows after (lentOf (callOf c) more rows head))
     × (fitsOf bytes numbers (after .resolver .head .used) (after .resolver .head .count) ≡ false →
     lentOf (callOf c) more rows head ≡ given LendMore more rows head)

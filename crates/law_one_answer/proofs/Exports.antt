@@ -10,9 +10,9 @@ use contract.Monad.{Fun}
 use Rattle.law_one_answer.specs.Settled.{Settled}
 use Rattle.lines.specs.declared.Paged.{Paged}
 use Rattle.lines.specs.Page.{PageLeft}
-use Rattle.export_tags.specs.Reading.{Reading as Batch-reading}
+use Rattle.export_tags.specs.Reading.{BatchEnd as Batch-reading}
 use Rattle.export_memory.specs.Boundary.{Crossed, Asked}
-use Rattle.export_nil.specs.Search.{Found}
+use Rattle.export_nil.specs.Search.{NilEnd}
 use Rattle.export_names.specs.Names.{Names}
 use Rattle.law_one_answer.proofs.Ends.{follows, together, alone, read-off}
 use Rattle.replay.proofs.wide as replay·wide
@@ -85,7 +85,7 @@ module _ {M : Type 1} (𝓤 : URA M) (H : Heap 𝓤) (A : Atoms 𝓤) (mem : Mem
   lines-answers κs a g y z = alone 𝓤 _ y z refl
 
   pub lines-page : Settled 𝓤 lines·page.ended (lines·page.clauses 𝓤 H A mem run)
-  lines-page κs a g y z = read-off 𝓤 (λ (x : PageLeft). (paged x, (tt, (x .batch .starts, (x .batch .ends, (tt, (tt, (tt, (tt, (x .batch .out, (x .text, tt)))))))))))
+  lines-page κs a g y z = read-off 𝓤 (λ (x : PageLeft). (paged x, (tt, (x .batch .starts, (x .batch .ends, (tt, (tt, (tt, (x .batch .out, (x .text, tt))))))))))
 
   pub export-tags-mz-split : Settled 𝓤 export-tags·mz-split.ended (export-tags·mz-split.clauses 𝓤 H A mem run)
   export-tags-mz-split κs a g y z = alone 𝓤 _ y z refl
@@ -151,4 +151,4 @@ module _ {M : Type 1} (𝓤 : URA M) (H : Heap 𝓤) (A : Atoms 𝓤) (mem : Mem
   export-nil-mz-as-bool κs a g y z = alone 𝓤 _ y z refl
 
   pub export-nil-mz-has-nil : Settled 𝓤 export-nil·mz-has-nil.ended (export-nil·mz-has-nil.clauses 𝓤 H A mem run)
-  export-nil-mz-has-nil κs a g y z = read-off 𝓤 (λ (x : Found). (x .result, (tt, (tt, (tt, (tt, (x .starts, (x .ends, (x .state, (tt, (tt, tt)))))))))))
+  export-nil-mz-has-nil κs a g y z = read-off 𝓤 (λ (x : NilEnd). (x .result, (tt, (tt, (tt, (tt, (x .starts, (x .ends, (x .state, (tt, (tt, tt)))))))))))

@@ -2,3 +2,4 @@ pub mod Ends
 pub mod Tags
 pub mod Scopes
 pub mod Exports
+pub mod Forms

@@ -12,14 +12,24 @@ use mathlib.Core.List.{List}
 use lib.ListN.{getD}
 use denote.Ref.{now}
 use Rattle.law_one_answer.specs.Settled.{Settled, SettledAs}
+use Rattle.name.specs.Bind.{namedNumbers}
+use Rattle.name.specs.declared.NamedCheck.{NamedCheck}
+use Rattle.name.proofs.Verdicts.{named-apart}
+use Rattle.tag_keys.specs.Keys.{checkedNumbers}
+use Rattle.tag_keys.specs.declared.Checked.{Checked}
+use Rattle.tag_keys.proofs.Numbers.{checked-apart}
+use Rattle.tag_step.specs.Numbers.{numbersOf, numberedStep}
+use Rattle.tag_step.specs.declared.Answer.{Answer}
+use Rattle.tag_step.specs.declared.Step.{Step}
+use Rattle.tag_step.proofs.Numbers.{numbers-apart, step-apart}
 use Rattle.tag_step.specs.Next.{Reading}
 use Rattle.tag_step.specs.Lent.{Taken, Took, Short, taken}
-use Rattle.tag_step.specs.declared.Outcome.{Outcome}
+use Rattle.tag_step.specs.declared.Advance.{Advance}
 use Rattle.tag_step.specs.declared.Stepped.{Stepped}
 use Rattle.tag_step.specs.declared.Stepped.the-variants.{Made, LendMore}
 use Rattle.tag_batch.specs.Batch.{Batched}
 use Rattle.tag_batch.specs.declared.Five.{Five}
-use Rattle.law_one_answer.proofs.Ends.{follows, together, alone, read-off}
+use Rattle.law_one_answer.proofs.Ends.{follows, together, alone, read-off, by-numbers}
 use Rattle.scan.proofs.is_whitespace as scan·is-whitespace
 use Rattle.scan.proofs.ends_key as scan·ends-key
 use Rattle.scan.proofs.whitespace_from as scan·whitespace-from
@@ -31,7 +41,7 @@ use Rattle.scan.proofs.byte_near as scan·byte-near
 use Rattle.scan.proofs.inside as scan·inside
 use Rattle.scan.proofs.same as scan·same
 use Rattle.scan.proofs.same_start as scan·same-start
-use Rattle.name.proofs.Declares.number as name·Declares·number
+use Rattle.name.proofs.PrefixDeclaration.number as name·PrefixDeclaration·number
 use Rattle.name.proofs.Verdict.number as name·Verdict·number
 use Rattle.name.proofs.colon_at as name·colon-at
 use Rattle.name.proofs.index as name·index
@@ -52,31 +62,31 @@ use Rattle.tag_keys.proofs.holds as tag-keys·holds
 use Rattle.tag_keys.proofs.check_for_duplicates as tag-keys·check-for-duplicates
 use Rattle.tag_keys.proofs.record_key as tag-keys·record-key
 use Rattle.tag_step.proofs.good_in as tag-step·good-in
-use Rattle.tag_step.proofs.state_good as tag-step·state-good
 use Rattle.tag_step.proofs.step_in as tag-step·step-in
-use Rattle.tag_step.proofs.step_lent as tag-step·step-lent
 use Rattle.tag_step.proofs.step_unchecked as tag-step·step-unchecked
 use Rattle.tag_step.proofs.clear as tag-step·clear
-use Rattle.tag_step.proofs.next_lent as tag-step·next-lent
 use Rattle.tag_step.proofs.IterState.new as tag-step·IterState·new
 use Rattle.tag_step.proofs.IterState.with_checks as tag-step·IterState·with-checks
 use Rattle.tag_step.proofs.IterState.next as tag-step·IterState·next
+use Rattle.tag_parts.proofs.Truth.number as tag-parts·Truth·number
 use Rattle.tag_parts.proofs.key_part as tag-parts·key-part
 use Rattle.tag_parts.proofs.value_part as tag-parts·value-part
 use Rattle.tag_parts.proofs.as_bool as tag-parts·as-bool
 use Rattle.tag_batch.proofs.Why.number as tag-batch·Why·number
 use Rattle.tag_batch.proofs.numbers as tag-batch·numbers
 use Rattle.tag_batch.proofs.read_batch as tag-batch·read-batch
-use Rattle.tag_carried.proofs.new as tag-carried·new
-use Rattle.tag_carried.proofs.html as tag-carried·html
-use Rattle.tag_carried.proofs.with_checks as tag-carried·with-checks
-use Rattle.tag_carried.proofs.next as tag-carried·next
+use Rattle.tag_carried.proofs.Attributes.new as tag-carried·Attributes·new
+use Rattle.tag_carried.proofs.Attributes.html as tag-carried·Attributes·html
+use Rattle.tag_carried.proofs.Attributes.with_checks as tag-carried·Attributes·with-checks
+use Rattle.tag_carried.proofs.Attributes.next as tag-carried·Attributes·next
+use Rattle.tag_carried.proofs.Attributes.key as tag-carried·Attributes·key
+use Rattle.tag_carried.proofs.Attributes.value as tag-carried·Attributes·value
 use Rattle.tag_carried.proofs.first as tag-carried·first
 use Rattle.export_cursor.proofs.place_from as export-cursor·place-from
 use Rattle.export_cursor.proofs.settle as export-cursor·settle
 
 -- the outcome of a step on lent tables, read off what the contract states
-abbrev outcome : Reading → Outcome
+abbrev outcome : Reading → Advance
 outcome x = record { answer = x .answer; place = x .place; count = x .keys .count }
 
 -- the same of a step that lacks a place: which of the two it is, and the tables
@@ -126,8 +136,8 @@ module _ {M : Type 1} (𝓤 : URA M) (H : Heap 𝓤) (A : Atoms 𝓤) (mem : Mem
   pub scan-same-start : Settled 𝓤 scan·same-start.ended (scan·same-start.clauses 𝓤 H A mem run)
   scan-same-start κs a g y z = alone 𝓤 _ y z refl
 
-  pub name-Declares-number : Settled 𝓤 name·Declares·number.ended (name·Declares·number.clauses 𝓤 H A mem run)
-  name-Declares-number κs a g y z = alone 𝓤 _ y z refl
+  pub name-PrefixDeclaration-number : Settled 𝓤 name·PrefixDeclaration·number.ended (name·PrefixDeclaration·number.clauses 𝓤 H A mem run)
+  name-PrefixDeclaration-number κs a g y z = alone 𝓤 _ y z refl
 
   pub name-Verdict-number : Settled 𝓤 name·Verdict·number.ended (name·Verdict·number.clauses 𝓤 H A mem run)
   name-Verdict-number κs a g y z = alone 𝓤 _ y z refl
@@ -166,7 +176,7 @@ module _ {M : Type 1} (𝓤 : URA M) (H : Heap 𝓤) (A : Atoms 𝓤) (mem : Mem
   name-declared-prefix κs a g y z = read-off 𝓤 (λ (bytes : List ℕ). (bytes, y .1))
 
   pub name-check-named : Settled 𝓤 name·check-named.ended (name·check-named.clauses 𝓤 H A mem run)
-  name-check-named κs a g y z = alone 𝓤 _ y z refl
+  name-check-named κs a g y z = by-numbers 𝓤 namedNumbers named-apart (λ (x : NamedCheck). (x, y .1)) (y .0) (z .0)
 
   pub name-verdict-named : Settled 𝓤 name·verdict-named.ended (name·verdict-named.clauses 𝓤 H A mem run)
   name-verdict-named κs a g y z = alone 𝓤 _ y z refl
@@ -181,7 +191,7 @@ module _ {M : Type 1} (𝓤 : URA M) (H : Heap 𝓤) (A : Atoms 𝓤) (mem : Mem
   tag-keys-holds κs a g y z = alone 𝓤 _ y z refl
 
   pub tag-keys-check-for-duplicates : Settled 𝓤 tag-keys·check-for-duplicates.ended (tag-keys·check-for-duplicates.clauses 𝓤 H A mem run)
-  tag-keys-check-for-duplicates κs a g y z = alone 𝓤 _ y z refl
+  tag-keys-check-for-duplicates κs a g y z = by-numbers 𝓤 checkedNumbers checked-apart (λ (x : Checked). (x, y .1)) (y .0) (z .0)
 
   pub tag-keys-record-key : Settled 𝓤 tag-keys·record-key.ended (tag-keys·record-key.clauses 𝓤 H A mem run)
   tag-keys-record-key κs a g y z = follows 𝓤 (λ p q. together y z refl (together (y .1) (z .1) (p .0 ∙ sym (q .0)) (together (y .1 .1) (z .1 .1) (p .1 ∙ sym (q .1)) refl)))
@@ -189,24 +199,15 @@ module _ {M : Type 1} (𝓤 : URA M) (H : Heap 𝓤) (A : Atoms 𝓤) (mem : Mem
   pub tag-step-good-in : Settled 𝓤 tag-step·good-in.ended (tag-step·good-in.clauses 𝓤 H A mem run)
   tag-step-good-in κs a g y z = alone 𝓤 _ y z refl
 
-  pub tag-step-state-good : Settled 𝓤 tag-step·state-good.ended (tag-step·state-good.clauses 𝓤 H A mem run)
-  tag-step-state-good κs a g y z = alone 𝓤 _ y z refl
-
   pub tag-step-step-in : Settled 𝓤 tag-step·step-in.ended (tag-step·step-in.clauses 𝓤 H A mem run)
   tag-step-step-in κs a g y z = follows 𝓤 (λ p q. ap (λ (x : Stepped × List ℕ × List ℕ). (x .0, (tt, (x .1, (x .2, (tt, (tt, (tt, (tt, tt)))))))))
       (sym (step-read (y .0) (y .1 .1 .0) (y .1 .1 .1 .0) _) ∙ ap stepRead (p ∙ sym q) ∙ step-read (z .0) (z .1 .1 .0) (z .1 .1 .1 .0) _))
-
-  pub tag-step-step-lent : Settled 𝓤 tag-step·step-lent.ended (tag-step·step-lent.clauses 𝓤 H A mem run)
-  tag-step-step-lent κs a g y z = read-off 𝓤 (λ (x : Reading). (outcome x, (tt, (x .keys .starts, (x .keys .ends, (tt, (tt, (tt, (tt, tt)))))))))
 
   pub tag-step-step-unchecked : Settled 𝓤 tag-step·step-unchecked.ended (tag-step·step-unchecked.clauses 𝓤 H A mem run)
   tag-step-step-unchecked κs a g y z = alone 𝓤 _ y z refl
 
   pub tag-step-clear : Settled 𝓤 tag-step·clear.ended (tag-step·clear.clauses 𝓤 H A mem run)
   tag-step-clear κs a g y z = follows 𝓤 (λ p q. together y z refl (together (y .1) (z .1) (p ∙ sym q) refl))
-
-  pub tag-step-next-lent : Settled 𝓤 tag-step·next-lent.ended (tag-step·next-lent.clauses 𝓤 H A mem run)
-  tag-step-next-lent κs a g y z = read-off 𝓤 (λ (x : Reading). (outcome x, (tt, (x .keys .starts, (x .keys .ends, (tt, (tt, (tt, (tt, tt)))))))))
 
   pub tag-step-IterState-new : Settled 𝓤 tag-step·IterState·new.ended (tag-step·IterState·new.clauses 𝓤 H A mem run)
   tag-step-IterState-new κs a g y z = alone 𝓤 _ y z refl
@@ -215,7 +216,10 @@ module _ {M : Type 1} (𝓤 : URA M) (H : Heap 𝓤) (A : Atoms 𝓤) (mem : Mem
   tag-step-IterState-with-checks κs a g y z = alone 𝓤 _ y z refl
 
   pub tag-step-IterState-next : Settled 𝓤 tag-step·IterState·next.ended (tag-step·IterState·next.clauses 𝓤 H A mem run)
-  tag-step-IterState-next κs a g y z = alone 𝓤 _ y z refl
+  tag-step-IterState-next κs a g y z = by-numbers 𝓤 numberedStep step-apart (λ (x : Step). (x, y .1)) (y .0) (z .0)
+
+  pub tag-parts-Truth-number : Settled 𝓤 tag-parts·Truth·number.ended (tag-parts·Truth·number.clauses 𝓤 H A mem run)
+  tag-parts-Truth-number κs a g y z = alone 𝓤 _ y z refl
 
   pub tag-parts-key-part : SettledAs 𝓤 tag-parts·key-part.ended (List ℕ) (λ κs r. now r) (tag-parts·key-part.clauses 𝓤 H A mem run)
   tag-parts-key-part κs a g y z = read-off 𝓤 (λ (bytes : List ℕ). (bytes, y .1))
@@ -235,20 +239,26 @@ module _ {M : Type 1} (𝓤 : URA M) (H : Heap 𝓤) (A : Atoms 𝓤) (mem : Mem
   pub tag-batch-read-batch : Settled 𝓤 tag-batch·read-batch.ended (tag-batch·read-batch.clauses 𝓤 H A mem run)
   tag-batch-read-batch κs a g y z = read-off 𝓤 (λ (x : Batched). (x .batch, (tt, (x .starts, (x .ends, (tt, (tt, (tt, (tt, (x .out, tt))))))))))
 
-  pub tag-carried-new : Settled 𝓤 tag-carried·new.ended (tag-carried·new.clauses 𝓤 H A mem run)
-  tag-carried-new κs a g y z = alone 𝓤 _ y z refl
+  pub tag-carried-Attributes-new : Settled 𝓤 tag-carried·Attributes·new.ended (tag-carried·Attributes·new.clauses 𝓤 H A mem run)
+  tag-carried-Attributes-new κs a g y z = alone 𝓤 _ y z refl
 
-  pub tag-carried-html : Settled 𝓤 tag-carried·html.ended (tag-carried·html.clauses 𝓤 H A mem run)
-  tag-carried-html κs a g y z = alone 𝓤 _ y z refl
+  pub tag-carried-Attributes-html : Settled 𝓤 tag-carried·Attributes·html.ended (tag-carried·Attributes·html.clauses 𝓤 H A mem run)
+  tag-carried-Attributes-html κs a g y z = alone 𝓤 _ y z refl
 
-  pub tag-carried-with-checks : Settled 𝓤 tag-carried·with-checks.ended (tag-carried·with-checks.clauses 𝓤 H A mem run)
-  tag-carried-with-checks κs a g y z = alone 𝓤 _ y z refl
+  pub tag-carried-Attributes-with-checks : Settled 𝓤 tag-carried·Attributes·with-checks.ended (tag-carried·Attributes·with-checks.clauses 𝓤 H A mem run)
+  tag-carried-Attributes-with-checks κs a g y z = follows 𝓤 (λ p q. together y z refl (together (y .1) (z .1) (p ∙ sym q) refl))
 
-  pub tag-carried-next : Settled 𝓤 tag-carried·next.ended (tag-carried·next.clauses 𝓤 H A mem run)
-  tag-carried-next κs a g y z = follows 𝓤 (λ p q. together y z (p .0 ∙ sym (q .0)) (together (y .1) (z .1) (p .1 ∙ sym (q .1)) refl))
+  pub tag-carried-Attributes-next : Settled 𝓤 tag-carried·Attributes·next.ended (tag-carried·Attributes·next.clauses 𝓤 H A mem run)
+  tag-carried-Attributes-next κs a g y z = follows 𝓤 (λ p q. together y z (numbers-apart (y .0) (z .0) (p .0 ∙ sym (q .0))) (together (y .1) (z .1) (p .1 ∙ sym (q .1)) refl))
+
+  pub tag-carried-Attributes-key : SettledAs 𝓤 tag-carried·Attributes·key.ended (List ℕ) (λ κs r. now r) (tag-carried·Attributes·key.clauses 𝓤 H A mem run)
+  tag-carried-Attributes-key κs a g y z = read-off 𝓤 (λ (b : List ℕ). (b, y .1))
+
+  pub tag-carried-Attributes-value : SettledAs 𝓤 tag-carried·Attributes·value.ended (List ℕ) (λ κs r. now r) (tag-carried·Attributes·value.clauses 𝓤 H A mem run)
+  tag-carried-Attributes-value κs a g y z = read-off 𝓤 (λ (b : List ℕ). (b, y .1))
 
   pub tag-carried-first : Settled 𝓤 tag-carried·first.ended (tag-carried·first.clauses 𝓤 H A mem run)
-  tag-carried-first κs a g y z = alone 𝓤 _ y z refl
+  tag-carried-first κs a g y z = by-numbers 𝓤 numbersOf numbers-apart (λ (x : Answer). (x, y .1)) (y .0) (z .0)
 
   pub export-cursor-place-from : Settled 𝓤 export-cursor·place-from.ended (export-cursor·place-from.clauses 𝓤 H A mem run)
   export-cursor-place-from κs a g y z = alone 𝓤 _ y z refl

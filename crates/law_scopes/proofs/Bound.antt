@@ -16,9 +16,9 @@ use Rattle.scope_table.specs.declared.NamespaceResolver.{NamespaceResolver}
 use Rattle.scope_table.proofs.Lists.{zeros-later}
 use Rattle.scope_table.proofs.Turns.{text-next}
 use Rattle.scope_table.proofs.Rows.{Same, rows-full, rows-before, row-fits, rest-after, record-new, record-old, text-same, before-same}
+use Rattle.scope_table.proofs.Good.{Shaped}
 use Rattle.scope_change.specs.Change.{boundOf}
 use Rattle.law_scopes.specs.Sized.{Sized}
-use Rattle.law_scopes.proofs.Form.{Shaped}
 use Rattle.law_scopes.proofs.Records.{before-top, opening-within}
 
 -- the room that one binding takes

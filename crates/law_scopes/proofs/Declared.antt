@@ -5,7 +5,7 @@ use mathlib.Core.Bool.{true}
 use mathlib.Core.List.{List, [], _∷_}
 use lib.ListN.{length}
 use Rattle.scan.proofs.Laws.{picks}
-use Rattle.name.specs.declared.Declares.{Declares}
+use Rattle.name.specs.declared.PrefixDeclaration.{PrefixDeclaration}
 use Rattle.scope_table.specs.Answer.{isDone}
 use Rattle.scope_table.specs.declared.NamespaceResolver.{NamespaceResolver}
 use Rattle.scope_table.specs.declared.NamespaceResult.{NamespaceResult}
@@ -40,7 +40,7 @@ module _ (P : NamespaceResolver → Type 0) (grows : (x : NamespaceResolver) (p 
   settle-keeps (Keep a) x p v h = h
   settle-keeps (Bind n) x p v h = append-keeps x _ v h
 
-  pub declare-keeps : (x : NamespaceResolver) (d : Declares) (p v : List ℕ) (at : Places) → P x → P (declareOf whole d p v at x .resolver)
+  pub declare-keeps : (x : NamespaceResolver) (d : PrefixDeclaration) (p v : List ℕ) (at : Places) → P x → P (declareOf whole d p v at x .resolver)
   unfolding declareOf
   declare-keeps x d p v at h = settle-keeps (judgeOf d p v at) x p v h
 

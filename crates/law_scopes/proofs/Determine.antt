@@ -9,6 +9,8 @@ use lib.ListN.{length, take, drop}
 use lib.Seq.{take-add, drop-drop}
 use Rattle.scan.specs.Bytes.{part}
 use Rattle.scan.proofs.Bytes.{same-eq}
+use Rattle.scan.specs.Lists.{listTo}
+use Rattle.scan.proofs.Lists.{list-back}
 use Rattle.scope_table.specs.Lists.{allZero}
 use Rattle.scope_table.specs.Records.{rowAt, recordAt, bindingOf, prefixIn, valueIn}
 use Rattle.scope_table.specs.Table.{builtIn, headOf, resolverOf, textOf}
@@ -16,14 +18,13 @@ use Rattle.scope_table.specs.declared.NamespaceBinding.{NamespaceBinding}
 use Rattle.scope_table.specs.declared.NamespaceResolver.{NamespaceResolver}
 use Rattle.scope_table.proofs.Turns.{text-next}
 use Rattle.scope_table.proofs.Rows.{rows-full, Same, take-same}
+use Rattle.scope_table.proofs.Good.{Shaped, form-of}
 use Rattle.law_scopes.specs.Scopes.{Made, Scopes}
-use Rattle.law_scopes.specs.Made.{listTo, madeOf, madeAt, madeIn, scopesOf}
+use Rattle.law_scopes.specs.Made.{madeOf, madeAt, madeIn, scopesOf}
 use Rattle.law_scopes.specs.Promises.{Proper, ScopesDetermine}
 use Rattle.law_scopes.proofs.Lists.{all-same}
-use Rattle.law_scopes.proofs.Form.{Shaped, form-of}
 use Rattle.law_scopes.proofs.Records.{text-two}
 use Rattle.law_scopes.proofs.BuiltIn.{first-record, second-record}
-use Rattle.law_scopes.proofs.Listed.{list-back}
 use Rattle.law_scopes.proofs.Made.{prefix-length, value-length, count-sum}
 
 -- the text of the first i records, and then that of record i

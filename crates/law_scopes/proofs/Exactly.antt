@@ -15,12 +15,12 @@ use Rattle.scope_table.specs.Answer.{changeNumbers}
 use Rattle.scope_table.specs.declared.NamespaceResolver.{NamespaceResolver}
 use Rattle.scope_table.specs.declared.NamespaceResult.{NamespaceResult}
 use Rattle.scope_table.specs.declared.NamespaceResult.the-variants.{Done, TooManyBindings, BindingTableFull, TextFull}
+use Rattle.scope_table.proofs.Good.{form-of}
 use Rattle.scope_change.specs.Change.{whole, refusalOf, appended, appendOf}
 use Rattle.scope_declare.specs.Declare.{wholly, judgeOf, settleOf, declareOf, addOf}
 use Rattle.scope_declare.specs.declared.Judged.the-variants.{Bind}
-use Rattle.name.specs.declared.Declares.{Declares}
+use Rattle.name.specs.declared.PrefixDeclaration.{PrefixDeclaration}
 use Rattle.law_scopes.specs.Promises.{SixteenExactly, EighteenExactly, NineteenExactly}
-use Rattle.law_scopes.proofs.Form.{form-of}
 
 module _ (limit : ℕ) (x : NamespaceResolver) (p v : List ℕ) where
   -- what the three tests give
@@ -99,7 +99,7 @@ module _ (x : NamespaceResolver) (ok : validOf x ≡ true) (p v : List ℕ) wher
         rw (lt-leb (x .head .limit) (x .head .count - 2) (h .0), lt-leb RECORDS (x .head .count) (h .1 .0), lt-ltb TEXT (x .head .used + (length p + length v)) (h .1 .1))
 
 -- what 12 to 15 let through is appended
-add-is : (x : NamespaceResolver) → validOf x ≡ true → (d : Declares) (p v : List ℕ) (n : ℕ) → judgeOf d p v (wholly p v) ≡ Bind n → addOf d p v x ≡ appendOf whole (take n p) v x
+add-is : (x : NamespaceResolver) → validOf x ≡ true → (d : PrefixDeclaration) (p v : List ℕ) (n : ℕ) → judgeOf d p v (wholly p v) ≡ Bind n → addOf d p v x ≡ appendOf whole (take n p) v x
 unfolding addOf declareOf settleOf
 add-is x ok d p v n e = rw (ok, e)
 

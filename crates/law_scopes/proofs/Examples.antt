@@ -7,28 +7,28 @@ use mathlib.Core.List.{List, [], _∷_, _++_}
 use native.Mathlib.Omega.{arith}
 use lib.ListN.{length, replicate, length-append, length-replicate}
 use borrow.Author.Tests.{lt-leb, le-ltb}
-use Rattle.scan.specs.First.{stopOr, firstOf, firstTo, firstFrom}
-use Rattle.scan.specs.Bytes.{isSpace, notSpace, endsKey, isByte, part, sameBytes, bytesFrom, bytes}
+use Rattle.scan.specs.First.{firstOf, firstTo, firstFrom}
+use Rattle.scan.specs.Bytes.{isSpace, notSpace, endsKey, isByte, part, inside, sameBytes, bytesFrom, bytes}
 use Rattle.tag_keys.specs.Keys.{keyGood, keyBad, countGood, tableGood, nameAt, sameKey, oldestOf, earlierOf, checkedBy, checkedOf, writtenBy, countBy}
-use Rattle.tag_step.specs.Read.{isAt, isQuote, skipTo, skipOf, recoverOf, keyEq, keyTo, keyFrom, keyAt, quoted, closedOf, quotedTo, quotedOf, unquotedTo, otherOf, valueIn, valueFrom, valueAt}
+use Rattle.tag_step.specs.Read.{isAt, isQuote, skipTo, skipOf, recoverOf, keyEq, keyTo, keyFrom, keyAt, quoted, closedOf, quotedTo, quotedOf, unquotedTo, otherOf, valueBy, valueFrom, valueAt}
 use Rattle.tag_step.specs.Next.{checkOf, keptBy, placeAt, bareBy, bareTo, bareOf, valuedBy, valuedTo, valuedOf, readKey, readAt, stepFrom, stepOf, placeGood, keysOf, stateGood, noKeys, badReading, leaves, nextOf, opened}
 use Rattle.tag_step.specs.Run.{isEnd, consUnless, runOf, answersOf}
-use Rattle.tag_parts.specs.Parts.{spanPart, keyPart, valuePart}
+use Rattle.tag_parts.specs.Parts.{keyPart, valuePart}
 use Rattle.name.specs.Reserved.{xmlPrefix, xmlnsPrefix, xmlUri, xmlnsUri, isXml, isXmlns, isXmlUri, isXmlnsUri}
 use Rattle.name.specs.Bind.{reservedBind}
 use Rattle.name.specs.Declares.{opening, isNamed, declaresOf, declaredPrefix}
-use Rattle.name.specs.declared.Declares.the-variants.{Default, Named}
+use Rattle.name.specs.declared.PrefixDeclaration.the-variants.{Default, Named}
 use Rattle.scope_table.specs.Table.{TEXT, RECORDS, LIMIT, headOf, resolverOf, isWithin, opensBuiltIn, isTable, validOf, freshOf}
 use Rattle.scope_table.specs.Answer.{changed}
 use Rattle.scope_table.specs.declared.NamespaceResolver.{NamespaceResolver}
-use Rattle.scope_table.specs.declared.NamespaceResult.the-variants.{Done, InvalidXmlnsPrefixBind, BindingTableFull, TextFull, BadResolver, LendMore, WrongLength}
+use Rattle.scope_table.specs.declared.NamespaceResult.the-variants.{Done, InvalidXmlnsPrefixBind, TooManyBindings, BindingTableFull, TextFull, BadResolver, LendMore, WrongLength}
 use Rattle.scope_declare.specs.declared.Judged.the-variants.{Bind}
 use Rattle.scope_declare.specs.Declare.{wholly, namedOf, judgeOf, addOf, popOf}
 use Rattle.scope_push.specs.Push.{declarationOf, declarationThen, declarationsOf, tagAnswers, pushOf}
 use Rattle.law_scopes.specs.Calls.{Call, add, push, pop, setLimit, callOf, testsForm, leftBy, answersBy}
-use Rattle.law_scopes.specs.Scopes.{Made, made, Scopes, scopes, Told, told, none, sizeOf, roomFor, bindIn, settleIn, declareIn, declareAllIn, keeps, upTo, levelIn, callIn, standing, answersIn}
+use Rattle.law_scopes.specs.Scopes.{Made, made, Scopes, scopes, ScopesTold, told, noScopes, sizeOf, roomFor, bindIn, settleIn, declareIn, declareAllIn, keeps, upTo, levelIn, callIn, scopesAfter, answersIn}
 use Rattle.law_scopes.specs.Made.{madeAt, seen}
-use Rattle.law_scopes.specs.Promises.{PushPopReturns, ValidStays, ReachedValid, BadStays, BadOnly, SizedStays, NeverLends, EighteenExactly, NineteenExactly, ScopesFollow, BuiltInsStand, ScopesDetermine, ScopeSums, AnswersFollow}
+use Rattle.law_scopes.specs.Promises.{PushPopReturns, ValidStays, ReachedValid, BadStays, BadOnly, SizedStays, NeverLends, SixteenExactly, EighteenExactly, NineteenExactly, ScopesFollow, BuiltInsStand, ScopesDetermine, ScopeSums, AnswersFollow}
 use Rattle.law_scopes.proofs.Valid.{fresh-proper, valid-stays, reached-valid}
 use Rattle.law_scopes.proofs.Twenty.{bad-stays, bad-only, sized-stays, never-lends}
 use Rattle.law_scopes.proofs.BuiltIn.{built-ins-stand}
@@ -36,7 +36,7 @@ use Rattle.law_scopes.proofs.Determine.{scopes-determine}
 use Rattle.law_scopes.proofs.Follow.{scopes-follow}
 use Rattle.law_scopes.proofs.Returns.{push-pop-returns}
 use Rattle.law_scopes.proofs.Sums.{fresh-none, left-standing, scope-sums, answers-follow}
-use Rattle.law_scopes.proofs.Exactly.{eighteen-exactly, nineteen-exactly}
+use Rattle.law_scopes.proofs.Exactly.{sixteen-exactly, eighteen-exactly, nineteen-exactly}
 
 -- a tag, a tag in it that is refused half way, a declaration added there, and what comes then
 abbrev outerTag : List ℕ
@@ -56,13 +56,13 @@ both = outer (made (bytes "q") (bytes "w") 2 ∷ made (bytes "s") (bytes "z") 2 
 
 -- `q` stands, the reserved prefix is 13 with its value, and `r` is not come to; a pop leaves the outer tag's
 pub history-example :
-    (answersIn (history []) none ≡ Done ∷ InvalidXmlnsPrefixBind 26 27 ∷ Done ∷ [])
-    × (standing (history []) none ≡ scopes both 2 LIMIT)
-    × (standing (history (pop ∷ [])) none ≡ scopes (outer []) 1 LIMIT)
-    × (standing (history (pop ∷ pop ∷ [])) none ≡ none)
-    × (callIn (push outerTag 0) none ≡ told Done (scopes (outer []) 1 LIMIT))
+    (answersIn (history []) noScopes ≡ Done ∷ InvalidXmlnsPrefixBind 26 27 ∷ Done ∷ [])
+    × (scopesAfter (history []) noScopes ≡ scopes both 2 LIMIT)
+    × (scopesAfter (history (pop ∷ [])) noScopes ≡ scopes (outer []) 1 LIMIT)
+    × (scopesAfter (history (pop ∷ pop ∷ [])) noScopes ≡ noScopes)
+    × (callIn (push outerTag 0) noScopes ≡ told Done (scopes (outer []) 1 LIMIT))
     × (sizeOf both ≡ 7)
-unfolding stopOr firstOf firstTo firstFrom isSpace notSpace endsKey isByte part sameBytes bytesFrom bytes keyGood keyBad countGood tableGood nameAt sameKey oldestOf earlierOf checkedBy checkedOf writtenBy countBy isAt isQuote skipTo skipOf recoverOf keyEq keyTo keyFrom keyAt quoted closedOf quotedTo quotedOf unquotedTo otherOf valueIn valueFrom valueAt checkOf keptBy placeAt bareBy bareTo bareOf valuedBy valuedTo valuedOf readKey readAt stepFrom stepOf placeGood keysOf stateGood noKeys badReading leaves nextOf opened isEnd consUnless runOf answersOf spanPart keyPart valuePart xmlPrefix xmlnsPrefix xmlUri xmlnsUri isXml isXmlns isXmlUri isXmlnsUri reservedBind opening isNamed declaresOf declaredPrefix namedOf judgeOf tagAnswers declarationOf declarationThen declarationsOf none sizeOf roomFor bindIn settleIn declareIn declareAllIn keeps upTo levelIn callIn standing answersIn
+unfolding firstOf firstTo firstFrom isSpace notSpace endsKey isByte part sameBytes bytesFrom bytes keyGood keyBad countGood tableGood nameAt sameKey oldestOf earlierOf checkedBy checkedOf writtenBy countBy isAt isQuote skipTo skipOf recoverOf keyEq keyTo keyFrom keyAt quoted closedOf quotedTo quotedOf unquotedTo otherOf valueBy valueFrom valueAt checkOf keptBy placeAt bareBy bareTo bareOf valuedBy valuedTo valuedOf readKey readAt stepFrom stepOf placeGood keysOf stateGood noKeys badReading leaves nextOf opened isEnd consUnless runOf answersOf inside keyPart valuePart xmlPrefix xmlnsPrefix xmlUri xmlnsUri isXml isXmlns isXmlUri isXmlnsUri reservedBind opening isNamed declaresOf declaredPrefix namedOf judgeOf tagAnswers declarationOf declarationThen declarationsOf noScopes sizeOf roomFor bindIn settleIn declareIn declareAllIn keeps upTo levelIn callIn scopesAfter answersIn
 history-example = (refl, refl, refl, refl, refl, refl)
 
 -- The fresh resolver, and what calls make of it.
@@ -105,13 +105,13 @@ unfolding ScopesDetermine ReachedValid
 determine-instance =
     let calls = history (pop ∷ pop ∷ []) in
     scopes-determine (leftBy calls freshOf) freshOf (reached-valid calls) fresh-proper
-    (left-standing calls freshOf fresh-proper ∙ ap (standing calls) fresh-none ∙ history-example .3 ∙ sym fresh-none)
+    (left-standing calls freshOf fresh-proper ∙ ap (scopesAfter calls) fresh-none ∙ history-example .3 ∙ sym fresh-none)
 
 pub sums-instance : (leftBy (history []) freshOf .head .used ≡ 80) × (leftBy (history []) freshOf .head .count ≡ 6)
 unfolding ScopeSums
 sums-instance =
     let s = scope-sums (history []) in
-    let h : standing (history []) none .bound ≡ both = ap (λ (t : Scopes). t .bound) (history-example .1) in
+    let h : scopesAfter (history []) noScopes .bound ≡ both = ap (λ (t : Scopes). t .bound) (history-example .1) in
     let size : sizeOf both ≡ 7 = history-example .5 in (
       s .text ∙ ap (λ (l : List Made). 73 + sizeOf l) h ∙ omega arith,
       s .records ∙ ap (λ (l : List Made). 2 + length l) h,
@@ -135,6 +135,18 @@ p-binds : judgeOf Named (bytes "p") (bytes "v") (wholly (bytes "p") (bytes "v"))
 unfolding judgeOf namedOf reservedBind isXml isXmlns isXmlUri isXmlnsUri xmlPrefix xmlnsPrefix xmlUri xmlnsUri sameBytes bytes bytesFrom
 p-binds = refl
 
+-- 16: with a limit of 0 there is room for none.
+
+abbrev closed : List Call
+closed = setLimit 0 ∷ []
+
+pub sixteen-instance : addOf Named (bytes "p") (bytes "v") (leftBy closed freshOf) .answer ≡ TooManyBindings 0
+unfolding SixteenExactly ScopeSums ReachedValid scopesAfter callIn noScopes
+sixteen-instance =
+    let x = leftBy closed freshOf in
+    let limit : x .head .limit ≡ 0 = scope-sums closed .limit in
+    sixteen-exactly x (reached-valid closed .valid) Named (bytes "p") (bytes "v") 1 p-binds .1 (omega arith) ∙ ap TooManyBindings limit
+
 -- 18: with a limit of 2,000, 1,024 bindings of no bytes fill the records.
 
 abbrev one : Call
@@ -154,21 +166,21 @@ record Grown (n : ℕ) (t u : Scopes) : Type 0 where
   bound : length (u .bound) ≡ length (t .bound) + n
   limit : u .limit ≡ t .limit
 
-grown : (n : ℕ) (t : Scopes) → length (t .bound) + n ≤ 1024 → 1024 < t .limit → sizeOf (t .bound) ≡ 0 → Grown n t (standing (replicate n one) t)
-unfolding standing bindIn
+grown : (n : ℕ) (t : Scopes) → length (t .bound) + n ≤ 1024 → 1024 < t .limit → sizeOf (t .bound) ≡ 0 → Grown n t (scopesAfter (replicate n one) t)
+unfolding scopesAfter bindIn
 grown zero t few within nothing = record { bound = omega arith; limit = refl }
 grown (suc n) t few within nothing =
     let u = bindIn t [] [] in
     let l : length (u .bound) ≡ length (t .bound) + 1 = length-append (t .bound) (made [] [] (t .level) ∷ []) in
     let g = grown n u (omega arith) within (size-one (t .bound) (t .level) ∙ nothing) in
-    subst (λ (r : Told). Grown (suc n) t (standing (replicate n one) (r .scopes))) (sym (one-in t (omega arith) (omega arith) nothing))
+    subst (λ (r : ScopesTold). Grown (suc n) t (scopesAfter (replicate n one) (r .scopes))) (sym (one-in t (omega arith) (omega arith) nothing))
     (record { bound = g .bound ∙ omega arith; limit = g .limit })
 
 abbrev filling : List Call
 filling = setLimit 2000 ∷ replicate 1024 one
 
 pub eighteen-instance : addOf Named (bytes "p") (bytes "v") (leftBy filling freshOf) .answer ≡ BindingTableFull
-unfolding EighteenExactly ScopeSums ReachedValid standing callIn none sizeOf
+unfolding EighteenExactly ScopeSums ReachedValid scopesAfter callIn noScopes sizeOf
 eighteen-instance =
     let x = leftBy filling freshOf in
     let s = scope-sums filling in
@@ -182,16 +194,16 @@ eighteen-instance =
 abbrev longest : Call
 longest = add Default [] (replicate 65463 0)
 
-long-in : (v : List ℕ) → length v ≡ 65463 → callIn (add Default [] v) none ≡ told Done (bindIn none [] v)
-unfolding callIn declareIn settleIn judgeOf roomFor none sizeOf
+long-in : (v : List ℕ) → length v ≡ 65463 → callIn (add Default [] v) noScopes ≡ told Done (bindIn noScopes [] v)
+unfolding callIn declareIn settleIn judgeOf roomFor noScopes sizeOf
 long-in v e = rw e
 
 pub nineteen-instance : addOf Named (bytes "p") (bytes "v") (leftBy (longest ∷ []) freshOf) .answer ≡ TextFull
-unfolding NineteenExactly ScopeSums ReachedValid standing bindIn none sizeOf bytes bytesFrom
+unfolding NineteenExactly ScopeSums ReachedValid scopesAfter bindIn noScopes sizeOf bytes bytesFrom
 nineteen-instance =
     let x = leftBy (longest ∷ []) freshOf in
     let s = scope-sums (longest ∷ []) in
-    let left : callIn longest none .scopes ≡ bindIn none [] (replicate 65463 0) = ap (λ (r : Told). r .scopes) (long-in (replicate 65463 0) (length-replicate {A = ℕ} 65463 0)) in
+    let left : callIn longest noScopes .scopes ≡ bindIn noScopes [] (replicate 65463 0) = ap (λ (r : ScopesTold). r .scopes) (long-in (replicate 65463 0) (length-replicate {A = ℕ} 65463 0)) in
     let used : x .head .used ≡ TEXT = s .text ∙ ap (λ (t : Scopes). 73 + sizeOf (t .bound)) left ∙ omega (arith, length-replicate {A = ℕ} 65463 0) in
     let count : x .head .count ≡ 3 = s .records ∙ ap (λ (t : Scopes). 2 + length (t .bound)) left in
     let limit : x .head .limit ≡ LIMIT = s .limit ∙ ap (λ (t : Scopes). t .limit) left in

@@ -14,23 +14,23 @@ use Rattle.scope_table.specs.Answer.{isDone}
 use Rattle.scope_table.specs.declared.NamespaceResolver.{NamespaceResolver}
 use Rattle.scope_table.specs.declared.NamespaceResult.the-variants.{Done, TooManyBindings, BindingTableFull, TextFull}
 use Rattle.scope_table.specs.declared.Changed.{Changed}
+use Rattle.scope_table.proofs.Good.{Shaped, form-of}
 use Rattle.scope_change.specs.Change.{whole, boundOf, refusalOf, appendOf, keptOf, droppedOf, levelOf}
 use Rattle.scope_declare.specs.declared.Judged.{Judged}
 use Rattle.scope_declare.specs.declared.Judged.the-variants.{Keep, Bind}
 use Rattle.scope_declare.specs.Declare.{placesOf, judgeOf, settleOf, declareOf, addOf, popOf, limitedOf}
 use Rattle.scope_push.specs.Push.{Declaration, declarationsOf, tagAnswers, thenOf, declareAll, raisedOf, pushOf}
 use Rattle.law_scopes.specs.Calls.{add, push, pop, setLevel, setLimit, callOf}
-use Rattle.law_scopes.specs.Scopes.{Told, told, sizeOf, roomFor, bindIn, settleIn, declareIn, declareAllIn, levelIn, callIn}
+use Rattle.law_scopes.specs.Scopes.{ScopesTold, told, sizeOf, roomFor, bindIn, settleIn, declareIn, declareAllIn, levelIn, callIn}
 use Rattle.law_scopes.specs.Made.{madeOf, madeAt, madeIn, scopesOf, seen}
 use Rattle.law_scopes.specs.Promises.{Proper, ScopesFollow}
-use Rattle.law_scopes.proofs.Form.{Shaped, form-of}
 use Rattle.law_scopes.proofs.Bound.{Takes}
 use Rattle.law_scopes.proofs.Declared.{refusal, room-of, declare-keeps}
 use Rattle.law_scopes.proofs.Valid.{bound-proper, raised-proper}
 use Rattle.law_scopes.proofs.Made.{bound-made, dropped-made, used-sum, count-sum}
 
 -- two ways, seen
-seen-pick : (t : Bool) (c d : Changed) (a b : Told) → (t ≡ true → seen c ≡ a) → (t ≡ false → seen d ≡ b) → seen (pick t c d) ≡ pick t a b
+seen-pick : (t : Bool) (c d : Changed) (a b : ScopesTold) → (t ≡ true → seen c ≡ a) → (t ≡ false → seen d ≡ b) → seen (pick t c d) ≡ pick t a b
 seen-pick true c d a b f g = f refl
 seen-pick false c d a b f g = g refl
 

@@ -11,11 +11,11 @@ use Rattle.scope_table.specs.declared.NamespaceResolver.{NamespaceResolver}
 use Rattle.scope_table.proofs.Lists.{cut-length}
 use Rattle.scope_table.proofs.Turns.{text-grows}
 use Rattle.scope_table.proofs.Rows.{rows-full, Same, same-take, text-same, before-same}
+use Rattle.scope_table.proofs.Good.{Shaped}
 use Rattle.scope_change.specs.Change.{keptAt, keptOf, droppedOf}
 use Rattle.scope_change.proofs.Change.{keep-within}
 use Rattle.law_scopes.specs.Sized.{Sized}
 use Rattle.law_scopes.proofs.Lists.{take-of-cut, cut-rest}
-use Rattle.law_scopes.proofs.Form.{Shaped}
 use Rattle.law_scopes.proofs.Records.{says, opening-within, kept-least, kept-below}
 
 module _ (x : NamespaceResolver) (s : Sized x) (f : Shaped x) where

@@ -1,5 +1,4 @@
 pub mod Lists
-pub mod Form
 pub mod Records
 pub mod Bound
 pub mod Kept

@@ -1,40 +1,15 @@
--- Laws of `listTo`, of the sum over a list of bindings, and of those up to a level.
+-- Laws of the sum over a list of bindings, and of those up to a level.
 use Prim.Native.Nat.{ℕ, zero, suc, _+_, _≤_, _<_}
-use mathlib.Core.Path.{_≡_, refl, sym, ap, _∙_}
+use mathlib.Core.Path.{_≡_, refl, ap, _∙_}
 use mathlib.Core.Bool.{Bool, true, false}
 use mathlib.Core.List.{List, [], _∷_, _++_, append-nil}
 use mathlib.Core.Logic.{⊎-elim}
-use native.Mathlib.Nat.{not-suc-le-zero, eq-or-lt-of-le}
+use native.Mathlib.Nat.{eq-or-lt-of-le}
 use native.Mathlib.Omega.{arith}
-use lib.ListN.{length, getD, length-append, List·getD-append}
-use lib.Seq.{getD-at}
 use borrow.Author.Tests.{le-leb, lt-leb}
 use Rattle.scan.specs.First.{pick}
+use Rattle.scan.specs.Lists.{listTo}
 use Rattle.law_scopes.specs.Scopes.{Made, sizeOf, keeps, upTo}
-use Rattle.law_scopes.specs.Made.{listTo}
-
-pub list-same : {A : Type 0} (f g : ℕ → A) (n : ℕ) → ((i : ℕ) → i < n → f i ≡ g i) → listTo f n ≡ listTo g n
-unfolding listTo
-list-same f g zero h = refl
-list-same f g (suc n) h = rw (list-same f g n (λ i l. h i (omega arith)), h n (omega arith))
-
-pub list-length : {A : Type 0} (f : ℕ → A) (n : ℕ) → length (listTo f n) ≡ n
-unfolding listTo
-list-length f zero = refl
-list-length f (suc n) = omega (arith, length-append (listTo f n) (f n ∷ []), list-length f n)
-
-pub list-at : {A : Type 0} (f : ℕ → A) (n i : ℕ) (d : A) → i < n → getD (listTo f n) i d ≡ f i
-unfolding listTo
-list-at f zero i d h = absurd (not-suc-le-zero h)
-list-at f (suc n) i d h =
-    let l = list-length f n in
-    ⊎-elim (λ (e : i ≡ n). rw e (getD-at (listTo f n) (f n) [] d n l))
-    (λ (k : i < n). List·getD-append (listTo f n) (f n ∷ []) d i (omega arith) ∙ list-at f n i d k)
-    (eq-or-lt-of-le (omega arith))
-
--- lists that are the same have the same at each place
-pub list-back : {A : Type 0} (f g : ℕ → A) (n : ℕ) → listTo f n ≡ listTo g n → (i : ℕ) → i < n → f i ≡ g i
-list-back {A} f g n e i h = sym (list-at f n i (f i) h) ∙ ap (λ (l : List A). getD l i (f i)) e ∙ list-at g n i (f i) h
 
 pub size-append : (l m : List Made) → sizeOf (l ++ m) ≡ sizeOf l + sizeOf m
 unfolding sizeOf

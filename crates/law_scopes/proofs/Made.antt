@@ -5,25 +5,25 @@ use mathlib.Core.Path.{_≡_, refl, sym, ap, _∙_}
 use mathlib.Core.List.{List, [], _∷_, _++_}
 use native.Mathlib.Omega.{arith}
 use lib.ListN.{length, take}
-use Rattle.scan.specs.Lists.{over}
-use Rattle.scan.proofs.Lists.{part-length, take-of-over, part-same}
+use Rattle.scan.specs.Lists.{over, listTo}
+use Rattle.scan.proofs.Lists.{part-length, take-of-over, part-same, list-same, list-length}
 use Rattle.scope_table.specs.Records.{recordAt, bindingOf, valueStart, valueEnd, prefixIn, valueIn}
 use Rattle.scope_table.specs.Table.{textOf}
 use Rattle.scope_table.specs.declared.NamespaceBinding.{NamespaceBinding}
 use Rattle.scope_table.specs.declared.NamespaceResolver.{NamespaceResolver}
 use Rattle.scope_table.proofs.Turns.{text-next, text-grows}
 use Rattle.scope_table.proofs.Rows.{Same}
+use Rattle.scope_table.proofs.Good.{Shaped}
 use Rattle.scope_change.specs.Change.{boundOf, keptOf, droppedOf}
 use Rattle.law_scopes.specs.Sized.{Sized}
 use Rattle.law_scopes.specs.Scopes.{made, sizeOf, upTo}
-use Rattle.law_scopes.specs.Made.{listTo, madeOf, madeAt, madeIn}
+use Rattle.law_scopes.specs.Made.{madeOf, madeAt, madeIn}
 use Rattle.law_scopes.proofs.Lists.{take-of-cut}
-use Rattle.law_scopes.proofs.Form.{Shaped}
 use Rattle.law_scopes.proofs.Records.{text-two, kept-below, kept-above}
 use Rattle.law_scopes.proofs.Bound.{Takes, old-stay, new-stands}
 use Rattle.law_scopes.proofs.Kept.{text-fits, kept-stay, kept, kept-within, kept-two}
 use Rattle.law_scopes.proofs.Parts.{prefix-back, value-back}
-use Rattle.law_scopes.proofs.Listed.{list-same, list-length, size-append, up-list}
+use Rattle.law_scopes.proofs.Listed.{size-append, up-list}
 
 -- What the records of two tables say alike.
 

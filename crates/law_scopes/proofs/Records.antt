@@ -15,8 +15,8 @@ use Rattle.scope_table.specs.declared.NamespaceBinding.{NamespaceBinding}
 use Rattle.scope_table.specs.declared.NamespaceResolver.{NamespaceResolver}
 use Rattle.scope_table.proofs.Lists.{and-left, and-right}
 use Rattle.scope_table.proofs.Turns.{text-grows}
+use Rattle.scope_table.proofs.Good.{Shaped}
 use Rattle.scope_change.specs.Change.{keptAt}
-use Rattle.law_scopes.proofs.Form.{Shaped}
 
 -- no level before record n is above what the first n are not above
 pub before-top : (n top : ℕ) (rows : ℕ → NamespaceBinding) → ((k : ℕ) → k < n → rows k .level ≤ top) → levelBefore rows n ≤ top

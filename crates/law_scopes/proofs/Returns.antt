@@ -13,15 +13,15 @@ use Rattle.scope_table.specs.declared.NamespaceResolver.{NamespaceResolver}
 use Rattle.scope_table.specs.declared.Changed.{Changed}
 use Rattle.scope_table.specs.declared.NamespaceResult.{NamespaceResult}
 use Rattle.scope_table.specs.declared.NamespaceResult.the-variants.{Done}
+use Rattle.scope_table.proofs.Good.{form-of}
 use Rattle.scope_declare.specs.declared.Judged.{Judged}
 use Rattle.scope_declare.specs.declared.Judged.the-variants.{Keep, Bind}
 use Rattle.scope_declare.specs.Declare.{judgeOf, popOf}
 use Rattle.scope_push.specs.Push.{Declaration, declarationsOf, tagAnswers, pushOf}
 use Rattle.law_scopes.specs.Calls.{push, pop, callOf}
-use Rattle.law_scopes.specs.Scopes.{Made, made, Scopes, scopes, Told, told, roomFor, bindIn, settleIn, declareIn, declareAllIn, upTo, levelIn, callIn}
+use Rattle.law_scopes.specs.Scopes.{Made, made, Scopes, scopes, ScopesTold, told, roomFor, bindIn, settleIn, declareIn, declareAllIn, upTo, levelIn, callIn}
 use Rattle.law_scopes.specs.Made.{madeOf, madeAt, madeIn, scopesOf, seen}
 use Rattle.law_scopes.specs.Promises.{Proper, ValidStays, ScopesFollow, ScopesDetermine, PushPopReturns}
-use Rattle.law_scopes.proofs.Form.{form-of}
 use Rattle.law_scopes.proofs.Listed.{not-kept, up-append, up-list}
 use Rattle.law_scopes.proofs.Valid.{valid-stays}
 use Rattle.law_scopes.proofs.Follow.{scopes-follow}
@@ -52,14 +52,14 @@ module _ (t : Scopes) where
   unfolding settleIn
   settle-grows (Keep a) u p v h = h
   settle-grows (Bind n) u p v h =
-      picks (λ (r : Told). Grown t (r .scopes)) (isDone (roomFor u (take n p) v)) (λ e. bind-grows u (take n p) v h) (λ e. h)
+      picks (λ (r : ScopesTold). Grown t (r .scopes)) (isDone (roomFor u (take n p) v)) (λ e. bind-grows u (take n p) v h) (λ e. h)
 
   all-grow : (ds : List Declaration) (u : Scopes) → Grown t u → Grown t (declareAllIn ds u .scopes)
   unfolding declareAllIn declareIn
   all-grow [] u h = h
   all-grow (d ∷ more) u h =
       let k = settle-grows (judgeOf (d .kind) (d .prefix) (d .value) (d .at)) u (d .prefix) (d .value) h in
-      picks (λ (r : Told). Grown t (r .scopes)) (isDone (declareIn d u .answer)) (λ e. all-grow more (declareIn d u .scopes) k) (λ e. k)
+      picks (λ (r : ScopesTold). Grown t (r .scopes)) (isDone (declareIn d u .answer)) (λ e. all-grow more (declareIn d u .scopes) k) (λ e. k)
 
   push-grows : (s : List ℕ) (from : ℕ) → t .level < DEEPEST → Grown t (callIn (push s from) t .scopes)
   unfolding callIn upTo
@@ -94,8 +94,8 @@ push-pop-returns x sized valid d tag from =
     let y = pushOf tag from x .resolver in
     let h : Proper y = valid-stays x g (push tag from) in
     let z = popOf y in
-    let pushed : callIn (push tag from) (scopesOf x) .scopes ≡ scopesOf y = sym (ap (λ (r : Told). r .scopes) (scopes-follow x g (push tag from))) in
+    let pushed : callIn (push tag from) (scopesOf x) .scopes ≡ scopesOf y = sym (ap (λ (r : ScopesTold). r .scopes) (scopes-follow x g (push tag from))) in
     let grown = subst (Grown (scopesOf x)) pushed (push-grows (scopesOf x) tag from (omega (arith, d))) in
     let popped : seen z ≡ told Done (scopesOf x) = scopes-follow y h pop ∙ pop-back (scopesOf x) (scopesOf y) (all-within x g) grown in
-    changed-is z Done x (ap (λ (r : Told). r .answer) popped)
-    (scopes-determine (z .resolver) x (valid-stays y h pop) g (ap (λ (r : Told). r .scopes) popped))
+    changed-is z Done x (ap (λ (r : ScopesTold). r .answer) popped)
+    (scopes-determine (z .resolver) x (valid-stays y h pop) g (ap (λ (r : ScopesTold). r .scopes) popped))

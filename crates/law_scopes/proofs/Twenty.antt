@@ -8,8 +8,8 @@ use lib.Dec.{eqb, leb, ltb}
 use lib.ListN.{length, take, getD}
 use Rattle.scan.proofs.Laws.{picks}
 use Rattle.name.specs.Bind.{reservedBind}
-use Rattle.name.specs.declared.Declares.{Declares}
-use Rattle.name.specs.declared.Declares.the-variants.{Nothing, Default, Named}
+use Rattle.name.specs.declared.PrefixDeclaration.{PrefixDeclaration}
+use Rattle.name.specs.declared.PrefixDeclaration.the-variants.{Nothing, Default, Named}
 use Rattle.name.specs.declared.NamedCheck.{NamedCheck}
 use Rattle.name.specs.declared.NamedCheck.the-variants as Check
 use Rattle.scope_table.specs.Table.{TEXT, RECORDS, DEEPEST, validOf}
@@ -63,7 +63,7 @@ module _ (x : NamespaceResolver) (p v : List ℕ) (at : Places) where
   named-other Check.InvalidPrefixForXml = refl
   named-other Check.InvalidPrefixForXmlns = refl
 
-  declare-other : (d : Declares) → Other (declareOf whole d p v at x .answer)
+  declare-other : (d : PrefixDeclaration) → Other (declareOf whole d p v at x .answer)
   unfolding Other declareOf judgeOf settleOf changeNumbers
   declare-other Nothing = refl
   declare-other Default = append-other x (take 0 p) v

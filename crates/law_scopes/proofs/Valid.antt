@@ -14,13 +14,13 @@ use Rattle.scope_table.specs.Table.{DEEPEST, builtIn, textOf, levelBefore, isRe
 use Rattle.scope_table.specs.declared.NamespaceResolver.{NamespaceResolver}
 use Rattle.scope_table.specs.declared.Changed.{Changed}
 use Rattle.scope_table.proofs.Fresh.{built-in-length, fresh-bytes, fresh-numbers, fresh-rest-text, fresh-rest-records}
+use Rattle.scope_table.proofs.Good.{Shaped, form-of, valid-of}
 use Rattle.scope_change.specs.Change.{boundOf, levelOf, droppedOf}
 use Rattle.scope_declare.specs.Declare.{addOf, popOf, limitedOf}
 use Rattle.scope_push.specs.Push.{declarationsOf, tagAnswers, raisedOf, pushOf}
 use Rattle.law_scopes.specs.Sized.{Sized}
 use Rattle.law_scopes.specs.Calls.{Call, add, push, pop, setLevel, setLimit, callOf, leftBy}
 use Rattle.law_scopes.specs.Promises.{Proper, ValidStays, ReachedValid}
-use Rattle.law_scopes.proofs.Form.{Shaped, form-of, valid-of}
 use Rattle.law_scopes.proofs.Bound.{Takes, bound-sized, bound-form}
 use Rattle.law_scopes.proofs.Kept.{dropped-sized, dropped-form}
 use Rattle.law_scopes.proofs.Declared.{declare-keeps, all-keep}

@@ -2,7 +2,7 @@
 use Prim.Native.Nat.{ℕ, _≤_}
 use mathlib.Core.Bool.{Bool, true, false}
 use mathlib.Core.List.{List, [], _∷_}
-use Rattle.name.specs.declared.Declares.{Declares}
+use Rattle.name.specs.declared.PrefixDeclaration.{PrefixDeclaration}
 use Rattle.scope_table.specs.Table.{DEEPEST}
 use Rattle.scope_table.specs.Answer.{changed}
 use Rattle.scope_table.specs.declared.NamespaceResolver.{NamespaceResolver}
@@ -15,7 +15,7 @@ use Rattle.scope_push.specs.Push.{pushOf}
 
 -- A level that is set has 16 bits, as the crate's parameter has; the limit may be any number.
 pub data Call : Type 0 where
-  add : Declares → (prefix value : List ℕ) → Call
+  add : PrefixDeclaration → (prefix value : List ℕ) → Call
   push : (tag : List ℕ) (from : ℕ) → Call
   pop : Call
   setLevel : (level : ℕ) → level ≤ DEEPEST → Call

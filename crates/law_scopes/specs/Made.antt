@@ -1,16 +1,12 @@
 -- The bindings that a resolver's records hold, as a list: how a table is seen as scopes.
-use Prim.Native.Nat.{ℕ, zero, suc, _+_, _-_}
-use mathlib.Core.List.{List, [], _∷_, _++_}
+use Prim.Native.Nat.{ℕ, _+_, _-_}
+use mathlib.Core.List.{List}
+use Rattle.scan.specs.Lists.{listTo}
 use Rattle.scope_table.specs.Records.{recordAt, prefixIn, valueIn}
 use Rattle.scope_table.specs.declared.NamespaceResolver.{NamespaceResolver}
 use Rattle.scope_table.specs.declared.NamespaceBinding.{NamespaceBinding}
 use Rattle.scope_table.specs.declared.Changed.{Changed}
-use Rattle.law_scopes.specs.Scopes.{Made, made, Scopes, scopes, Told, told}
-
--- f of each number below n, in order
-unfoldable pub listTo : {A : Type 0} → (ℕ → A) → ℕ → List A
-listTo f zero = []
-listTo f (suc n) = listTo f n ++ (f n ∷ [])
+use Rattle.law_scopes.specs.Scopes.{Made, made, Scopes, scopes, ScopesTold, told}
 
 -- what a record says
 unfoldable pub madeOf : (text : List ℕ) → NamespaceBinding → Made
@@ -27,5 +23,5 @@ madeIn x = listTo (λ i. madeAt x (2 + i)) (x .head .count - 2)
 unfoldable pub scopesOf : NamespaceResolver → Scopes
 scopesOf x = scopes (madeIn x) (x .head .level) (x .head .limit)
 
-unfoldable pub seen : Changed → Told
+unfoldable pub seen : Changed → ScopesTold
 seen c = told (c .answer) (scopesOf (c .resolver))

@@ -5,7 +5,7 @@ use mathlib.Core.Bool.{true, false}
 use mathlib.Core.List.{List}
 use mathlib.Core.Logic.{_↔_}
 use lib.ListN.{length, take}
-use Rattle.name.specs.declared.Declares.{Declares}
+use Rattle.name.specs.declared.PrefixDeclaration.{PrefixDeclaration}
 use Rattle.name.specs.Reserved.{xmlPrefix, xmlnsPrefix, xmlUri, xmlnsUri}
 use Rattle.scope_table.specs.Table.{TEXT, RECORDS, DEEPEST, validOf, freshOf}
 use Rattle.scope_table.specs.Answer.{changed}
@@ -16,7 +16,7 @@ use Rattle.scope_declare.specs.declared.Judged.the-variants.{Bind}
 use Rattle.scope_push.specs.Push.{pushOf}
 use Rattle.law_scopes.specs.Sized.{Sized}
 use Rattle.law_scopes.specs.Calls.{Call, callOf, testsForm, leftBy, answersBy}
-use Rattle.law_scopes.specs.Scopes.{made, Scopes, none, sizeOf, callIn, standing, answersIn}
+use Rattle.law_scopes.specs.Scopes.{made, Scopes, noScopes, sizeOf, callIn, scopesAfter, answersIn}
 use Rattle.law_scopes.specs.Made.{madeAt, madeIn, scopesOf, seen}
 
 -- A push and then a pop give back the resolver as it was, every place of every array, at every level below the deepest
@@ -60,21 +60,21 @@ NeverLends =
 unfoldable pub SixteenExactly : Type 0
 SixteenExactly =
     (x : NamespaceResolver) → validOf x ≡ true →
-    (d : Declares) (prefix value : List ℕ) (n : ℕ) → judgeOf d prefix value (wholly prefix value) ≡ Bind n →
+    (d : PrefixDeclaration) (prefix value : List ℕ) (n : ℕ) → judgeOf d prefix value (wholly prefix value) ≡ Bind n →
     addOf d prefix value x .answer ≡ TooManyBindings (x .head .limit) ↔ (x .head .limit ≤ x .head .count - 2)
 
 -- Where 16 does not come, 18 comes exactly if all 1,026 records are in use.
 unfoldable pub EighteenExactly : Type 0
 EighteenExactly =
     (x : NamespaceResolver) → validOf x ≡ true →
-    (d : Declares) (prefix value : List ℕ) (n : ℕ) → judgeOf d prefix value (wholly prefix value) ≡ Bind n →
+    (d : PrefixDeclaration) (prefix value : List ℕ) (n : ℕ) → judgeOf d prefix value (wholly prefix value) ≡ Bind n →
     addOf d prefix value x .answer ≡ BindingTableFull ↔ ((x .head .count - 2 < x .head .limit) × (x .head .count ≡ RECORDS))
 
 -- Where neither comes, so that a record is free, 19 comes exactly if text used plus both lengths exceeds 65,536.
 unfoldable pub NineteenExactly : Type 0
 NineteenExactly =
     (x : NamespaceResolver) → validOf x ≡ true →
-    (d : Declares) (prefix value : List ℕ) (n : ℕ) → judgeOf d prefix value (wholly prefix value) ≡ Bind n →
+    (d : PrefixDeclaration) (prefix value : List ℕ) (n : ℕ) → judgeOf d prefix value (wholly prefix value) ≡ Bind n →
     addOf d prefix value x .answer ≡ TextFull
     ↔ ((x .head .count - 2 < x .head .limit)
     × ((x .head .count < RECORDS) × (TEXT < x .head .used + (length (take n prefix) + length value))))
@@ -105,8 +105,8 @@ pub record Sums (x : NamespaceResolver) (t : Scopes) : Type 0 where
 -- After any calls on the fresh resolver text used and the number of records are the sums over the declarations that
 -- were accepted and not popped since.
 unfoldable pub ScopeSums : Type 0
-ScopeSums = (calls : List Call) → Sums (leftBy calls freshOf) (standing calls none)
+ScopeSums = (calls : List Call) → Sums (leftBy calls freshOf) (scopesAfter calls noScopes)
 
 -- And every answer on the way is the one that the list of those declarations gives.
 unfoldable pub AnswersFollow : Type 0
-AnswersFollow = (calls : List Call) → answersBy calls freshOf ≡ answersIn calls none
+AnswersFollow = (calls : List Call) → answersBy calls freshOf ≡ answersIn calls noScopes

@@ -34,16 +34,16 @@ abbrev pub scopes : List Made → ℕ → ℕ → Scopes
 scopes bound level limit = record { bound = bound; level = level; limit = limit }
 
 -- an answer, and the scopes that it leaves
-pub record Told : Type 0 where
+pub record ScopesTold : Type 0 where
   pub answer : NamespaceResult
   pub scopes : Scopes
 
-abbrev pub told : NamespaceResult → Scopes → Told
+abbrev pub told : NamespaceResult → Scopes → ScopesTold
 told a t = record { answer = a; scopes = t }
 
 -- before any call
-unfoldable pub none : Scopes
-none = scopes [] 0 LIMIT
+unfoldable pub noScopes : Scopes
+noScopes = scopes [] 0 LIMIT
 
 -- the bytes of prefixes and values, added up
 unfoldable pub sizeOf : List Made → ℕ
@@ -64,16 +64,16 @@ unfoldable pub bindIn : Scopes → (prefix value : List ℕ) → Scopes
 bindIn t p v = scopes (t .bound ++ (made p v (t .level) ∷ [])) (t .level) (t .limit)
 
 -- a binding goes in where there is room for it; a refusal leaves the scopes as they were
-unfoldable pub settleIn : Judged → Scopes → (prefix value : List ℕ) → Told
+unfoldable pub settleIn : Judged → Scopes → (prefix value : List ℕ) → ScopesTold
 settleIn (Keep a) t p v = told a t
 settleIn (Bind n) t p v =
     pick (isDone (roomFor t (take n p) v)) (told Done (bindIn t (take n p) v)) (told (roomFor t (take n p) v) t)
 
-unfoldable pub declareIn : Declaration → Scopes → Told
+unfoldable pub declareIn : Declaration → Scopes → ScopesTold
 declareIn d t = settleIn (judgeOf (d .kind) (d .prefix) (d .value) (d .at)) t (d .prefix) (d .value)
 
 -- one after the other, up to the first refusal, which keeps what went in before it
-unfoldable pub declareAllIn : List Declaration → Scopes → Told
+unfoldable pub declareAllIn : List Declaration → Scopes → ScopesTold
 declareAllIn [] t = told Done t
 declareAllIn (d ∷ more) t =
     pick (isDone (declareIn d t .answer)) (declareAllIn more (declareIn d t .scopes)) (declareIn d t)
@@ -89,7 +89,7 @@ upTo level (b ∷ more) = pick (keeps level b) (b ∷ upTo level more) (upTo lev
 unfoldable pub levelIn : ℕ → Scopes → Scopes
 levelIn level t = scopes (upTo level (t .bound)) level (t .limit)
 
-unfoldable pub callIn : Call → Scopes → Told
+unfoldable pub callIn : Call → Scopes → ScopesTold
 callIn (add d p v) t = declareIn (record { kind = d; prefix = p; value = v; at = placesOf 0 (length p) 0 (length v) }) t
 callIn (push s from) t =
     pick (leb DEEPEST (t .level)) (told (TooDeeplyNested DEEPEST) t)
@@ -99,9 +99,9 @@ callIn (setLevel to h) t = told Done (levelIn to t)
 callIn (setLimit limit) t = told Done (scopes (t .bound) (t .level) limit)
 
 -- what a history of calls leaves standing, and what its calls answer, the first made first
-unfoldable pub standing : List Call → Scopes → Scopes
-standing [] t = t
-standing (c ∷ more) t = standing more (callIn c t .scopes)
+unfoldable pub scopesAfter : List Call → Scopes → Scopes
+scopesAfter [] t = t
+scopesAfter (c ∷ more) t = scopesAfter more (callIn c t .scopes)
 
 unfoldable pub answersIn : List Call → Scopes → List NamespaceResult
 answersIn [] t = []

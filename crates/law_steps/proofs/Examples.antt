@@ -7,7 +7,7 @@ use mathlib.Core.Bool.{Bool, true, false}
 use mathlib.Core.List.{List, [], _∷_, map}
 use native.Mathlib.Omega.{arith}
 use lib.ListN.{getD, replicate, length-replicate, getD-replicate}
-use Rattle.scan.specs.First.{stopOr, firstOf, firstTo, firstFrom}
+use Rattle.scan.specs.First.{firstOf, firstTo, firstFrom}
 use Rattle.scan.specs.Bytes.{isSpace, notSpace, endsKey, isByte, part, sameBytes, bytesFrom, bytes}
 use Rattle.tag_keys.specs.Keys.{capacity, keyGood, keyBad, countGood, tableGood, nameAt, sameKey, oldestOf, earlierOf, checkedBy, checkedOf, writtenBy, countBy}
 use Rattle.tag_step.specs.declared.Span.{Span}
@@ -19,10 +19,13 @@ use Rattle.tag_step.specs.declared.Answer.{Answer}
 use Rattle.tag_step.specs.declared.Answer.the-variants.{End, DoubleQ, SingleQ, Unquoted, Empty, ExpectedEq, ExpectedValue, UnquotedValue, ExpectedQuote, Duplicated, KeyTableFull, BadState}
 use Rattle.tag_step.specs.declared.IterState.{IterState}
 use Rattle.tag_step.specs.declared.Step.{Step}
-use Rattle.tag_step.specs.Read.{span, isAt, isQuote, skipTo, skipOf, recoverOf, keyEq, keyTo, keyFrom, keyAt, quoted, closedOf, quotedTo, quotedOf, unquotedTo, otherOf, valueIn, valueFrom, valueAt}
+use Rattle.tag_step.specs.Read.{span, isAt, isQuote, skipTo, skipOf, skipEqValueOf, recoverOf, keyEq, keyTo, keyFrom, keyAt, quoted, closedOf, quotedTo, quotedOf, unquotedTo, otherOf, valueBy, valueFrom, valueAt}
 use Rattle.tag_step.specs.Next.{checkOf, keptBy, placeAt, bareBy, bareTo, bareOf, valuedBy, valuedTo, valuedOf, readKey, readAt, stepFrom, stepOf, placeGood, keysOf, stateGood, noKeys, badReading, leaves, nextOf, opened}
-use Rattle.tag_step.proofs.Good.{opened-good}
-use Rattle.law_steps.specs.Steps.{FullTables, Broken, outsideKey, SevenExactly, valued, SixExactly, onlySpace, RecordsIts, Left, LeavesExact, EndExactly, EndStays, Forward, StepForward}
+use Rattle.tag_step.specs.Run.{runOf, answersOf}
+use Rattle.tag_step.proofs.Good.{Sized, opened-good, next-stays-good}
+use Rattle.tag_step.proofs.Paths.{skip-eq-plain}
+use Rattle.tag_step.proofs.Run.{run-whole}
+use Rattle.law_steps.specs.Steps.{FullTables, Broken, outsideKey, SevenExactly, valued, SixExactly, onlySpace, RecordsIts, RowLeft, LeavesExact, EndExactly, EndStays, Forward, StepForward}
 use Rattle.law_steps.proofs.Leaves.{leaves-exact}
 use Rattle.law_steps.proofs.Refusals.{good-whole, six-exactly, seven-exactly}
 use Rattle.law_steps.proofs.Steps.{end-exactly, end-stays, step-forward}
@@ -103,7 +106,7 @@ abbrev written : Row → Step
 written r = record { answer = r .answer; state = r .left }
 
 rows : map computed table ≡ map written table
-unfolding stopOr firstOf firstTo firstFrom isSpace notSpace endsKey isByte part sameBytes bytesFrom bytes keyGood keyBad countGood tableGood nameAt sameKey oldestOf earlierOf checkedBy checkedOf writtenBy countBy isAt isQuote skipTo skipOf recoverOf keyEq keyTo keyFrom keyAt quoted closedOf quotedTo quotedOf unquotedTo otherOf valueIn valueFrom valueAt checkOf keptBy placeAt bareBy bareTo bareOf valuedBy valuedTo valuedOf readKey readAt stepFrom stepOf placeGood keysOf stateGood noKeys badReading leaves nextOf
+unfolding firstOf firstTo firstFrom isSpace notSpace endsKey isByte part sameBytes bytesFrom bytes keyGood keyBad countGood tableGood nameAt sameKey oldestOf earlierOf checkedBy checkedOf writtenBy countBy isAt isQuote skipTo skipOf recoverOf keyEq keyTo keyFrom keyAt quoted closedOf quotedTo quotedOf unquotedTo otherOf valueBy valueFrom valueAt checkOf keptBy placeAt bareBy bareTo bareOf valuedBy valuedTo valuedOf readKey readAt stepFrom stepOf placeGood keysOf stateGood noKeys badReading leaves nextOf
 rows = refl
 
 -- Each law, applied.
@@ -129,7 +132,7 @@ abbrev six-tag : List ℕ
 six-tag = bytes "a b=''"
 
 six-whole : Broken six-tag (crowded (Next 1) false) → ⊥
-unfolding SevenExactly stopOr firstOf firstTo firstFrom isSpace notSpace endsKey isByte part sameBytes bytesFrom bytes keyGood keyBad countGood tableGood nameAt sameKey oldestOf earlierOf checkedBy checkedOf writtenBy countBy isAt isQuote skipTo skipOf recoverOf keyEq keyTo keyFrom keyAt quoted closedOf quotedTo quotedOf unquotedTo otherOf valueIn valueFrom valueAt checkOf keptBy placeAt bareBy bareTo bareOf valuedBy valuedTo valuedOf readKey readAt stepFrom stepOf placeGood keysOf stateGood noKeys badReading leaves nextOf
+unfolding SevenExactly firstOf firstTo firstFrom isSpace notSpace endsKey isByte part sameBytes bytesFrom bytes keyGood keyBad countGood tableGood nameAt sameKey oldestOf earlierOf checkedBy checkedOf writtenBy countBy isAt isQuote skipTo skipOf recoverOf keyEq keyTo keyFrom keyAt quoted closedOf quotedTo quotedOf unquotedTo otherOf valueBy valueFrom valueAt checkOf keptBy placeAt bareBy bareTo bareOf valuedBy valuedTo valuedOf readKey readAt stepFrom stepOf placeGood keysOf stateGood noKeys badReading leaves nextOf
 six-whole b =
     let e : KeyTableFull 2 ≡ BadState = seven-exactly six-tag (crowded (Next 1) false) (full-tables (Next 1) false) .1 b in
     let z : _≡_ {A = ℕ} 0 1 = cc in omega arith
@@ -141,7 +144,7 @@ six-new k lt e =
     let z : _≡_ {A = ℕ} 97 98 = cc in omega arith
 
 pub six-example : nextOf six-tag (crowded (Next 1) false) .answer ≡ KeyTableFull 2
-unfolding SixExactly stopOr firstOf firstTo firstFrom isSpace notSpace endsKey bytesFrom bytes isAt recoverOf keyEq keyTo keyFrom keyAt
+unfolding SixExactly firstOf firstTo firstFrom isSpace notSpace endsKey bytesFrom bytes isAt recoverOf keyEq keyTo keyFrom keyAt
 six-example =
     six-exactly six-tag (crowded (Next 1) false) 2 (full-tables (Next 1) false) .1
     (record {
@@ -159,11 +162,11 @@ abbrev three-tag : List ℕ
 three-tag = bytes "a=1 b='2'"
 
 pub three-leaves : RecordsIts three-tag (opened 0 false true) (nextOf three-tag (opened 0 false true) .state) (SkipValue 2)
-unfolding LeavesExact Left stopOr firstOf firstTo firstFrom isSpace notSpace endsKey isByte part sameBytes bytesFrom bytes keyGood keyBad countGood tableGood nameAt sameKey oldestOf earlierOf checkedBy checkedOf writtenBy countBy isAt isQuote skipTo skipOf recoverOf keyEq keyTo keyFrom keyAt quoted closedOf quotedTo quotedOf unquotedTo otherOf valueIn valueFrom valueAt checkOf keptBy placeAt bareBy bareTo bareOf valuedBy valuedTo valuedOf readKey readAt stepFrom stepOf placeGood keysOf stateGood noKeys badReading leaves nextOf opened
+unfolding LeavesExact RowLeft firstOf firstTo firstFrom isSpace notSpace endsKey isByte part sameBytes bytesFrom bytes keyGood keyBad countGood tableGood nameAt sameKey oldestOf earlierOf checkedBy checkedOf writtenBy countBy isAt isQuote skipTo skipOf recoverOf keyEq keyTo keyFrom keyAt quoted closedOf quotedTo quotedOf unquotedTo otherOf valueBy valueFrom valueAt checkOf keptBy placeAt bareBy bareTo bareOf valuedBy valuedTo valuedOf readKey readAt stepFrom stepOf placeGood keysOf stateGood noKeys badReading leaves nextOf opened
 three-leaves = leaves-exact three-tag (opened 0 false true)
 
 key-there : (from eq : ℕ) (key : Span) → From 0 ≡ From from → keyAt three-tag from ≡ Valued key eq → key ≡ span 0 1
-unfolding stopOr firstOf firstTo firstFrom isSpace notSpace endsKey bytesFrom bytes isAt keyEq keyTo keyFrom keyAt
+unfolding firstOf firstTo firstFrom isSpace notSpace endsKey bytesFrom bytes isAt keyEq keyTo keyFrom keyAt
 key-there from eq key goes reads =
     let zero : from ≡ 0 = cc in
     let here : Valued (span 0 1) 1 ≡ Valued key eq = subst (λ (o : ℕ). keyAt three-tag o ≡ Valued key eq) zero reads in
@@ -195,7 +198,7 @@ end-comes =
 
 -- A skip with no whitespace after it is the end, and stays so.
 pub end-example : nextOf (tag "a=1") (nextOf (tag "a=1") (at (SkipValue 2) false true 0 8 1 9 1) .state) .answer ≡ End
-unfolding EndStays stopOr firstOf firstTo firstFrom isSpace bytesFrom bytes keyGood keyBad countGood tableGood skipTo skipOf recoverOf stepFrom stepOf placeGood keysOf stateGood leaves nextOf
+unfolding EndStays firstOf firstTo firstFrom isSpace bytesFrom bytes keyGood keyBad countGood tableGood skipTo skipOf recoverOf stepFrom stepOf placeGood keysOf stateGood leaves nextOf
 end-example = ap (λ (x : Step). x .answer) (end-stays (tag "a=1") (at (SkipValue 2) false true 0 8 1 9 1) refl)
 
 -- 5 leaves a place past the one where its reading began.
@@ -203,8 +206,28 @@ abbrev five : IterState
 five = at (Next 3) false true 0 8 1 9 1
 
 pub forward-example : Forward (tag "a b a =1") (Next 3) (SkipEqValue 6)
-unfolding StepForward stopOr firstOf firstTo firstFrom isSpace notSpace endsKey isByte part sameBytes bytesFrom bytes keyGood keyBad countGood tableGood nameAt sameKey oldestOf earlierOf checkedBy checkedOf writtenBy countBy isAt isQuote skipTo skipOf recoverOf keyEq keyTo keyFrom keyAt quoted closedOf quotedTo quotedOf unquotedTo otherOf valueIn valueFrom valueAt checkOf keptBy placeAt bareBy bareTo bareOf valuedBy valuedTo valuedOf readKey readAt stepFrom stepOf placeGood keysOf stateGood noKeys badReading leaves nextOf
+unfolding StepForward firstOf firstTo firstFrom isSpace notSpace endsKey isByte part sameBytes bytesFrom bytes keyGood keyBad countGood tableGood nameAt sameKey oldestOf earlierOf checkedBy checkedOf writtenBy countBy isAt isQuote skipTo skipOf recoverOf keyEq keyTo keyFrom keyAt quoted closedOf quotedTo quotedOf unquotedTo otherOf valueBy valueFrom valueAt checkOf keptBy placeAt bareBy bareTo bareOf valuedBy valuedTo valuedOf readKey readAt stepFrom stepOf placeGood keysOf stateGood noKeys badReading leaves nextOf
 forward-example =
     step-forward (tag "a b a =1") five
     (λ (e : Duplicated 4 0 ≡ End). let z : _≡_ {A = ℕ} 0 1 = cc in omega arith)
     (λ (e : Duplicated 4 0 ≡ BadState). let z : _≡_ {A = ℕ} 0 1 = cc in omega arith)
+
+-- Three laws of the iterator that these stand on.
+
+-- a longer run has no more answers
+opened-sized : Sized (opened 0 false true)
+unfolding opened noKeys
+opened-sized = record { starts = length-replicate {A = ℕ} capacity 0; ends = length-replicate {A = ℕ} capacity 0 }
+
+pub run-whole-example : runOf 13 three-tag (opened 0 false true) ≡ answersOf three-tag (opened 0 false true)
+unfolding bytesFrom bytes
+run-whole-example = run-whole 3 three-tag (opened 0 false true) opened-sized
+
+-- 7 leaves a state that 7 does not answer
+pub stays-good-example : stateGood (tag "a") (nextOf (tag "a") (at (SkipValue 1) true false 0 8 1 9 1) .state) ≡ true
+stays-good-example = next-stays-good (tag "a") (at (SkipValue 1) true false 0 8 1 9 1) (record { starts = refl; ends = refl })
+
+-- from the `=` on, the first whitespace, though it stands between quotes
+pub skip-eq-example : skipEqValueOf (tag "a=\"2 3\" b") 1 ≡ From 4
+unfolding firstOf firstTo firstFrom isSpace bytesFrom bytes isAt skipTo skipOf placeGood
+skip-eq-example = skip-eq-plain (tag "a=\"2 3\" b") 1 refl

@@ -31,7 +31,7 @@ use Rattle.tag_step.specs.Read.{isAt, recoverOf, keyEq, keyTo, keyFrom, keyAt, 
 use Rattle.tag_step.specs.Next.{Keys, Reading, reading, checkOf, keptBy, placeAt, bareBy, bareTo, valuedBy, valuedTo, readAt, stepFrom, stepOf, keysOf, stateGood, noKeys, badReading, leaves, nextOf}
 use Rattle.tag_step.proofs.Whole.{starts-in}
 use Rattle.tag_step.proofs.Ways.{value-ways, step-ways}
-use Rattle.law_steps.specs.Steps.{ValuedKey, valued, movedWith, onlySpace, nowhere, leftBy, skipsFrom, goesOn, Left, LeavesExact}
+use Rattle.law_steps.specs.Steps.{ValuedKey, valued, movedWith, onlySpace, nowhere, endLeft, skipsFrom, goesOn, RowLeft, LeavesExact}
 
 -- Where no key is read only whitespace follows.
 
@@ -75,7 +75,7 @@ module _ (s : List ℕ) (st : IterState) where
 
   -- a row of the table for what a reading makes
   abbrev Leaves : Reading → Type 0
-  Leaves x = Left s st (x .answer) (leaves st x .state)
+  Leaves x = RowLeft s st (x .answer) (leaves st x .state)
 
   -- the state after a fresh key
   fresh : (a : Answer) (p : Place) (key : Span) (n : ℕ) → Fresh n ≡ checkOf s checks (keysOf st) key → leaves st (record { answer = a; place = p; keys = keptBy checks (keysOf st) key (Fresh n) }) .state ≡ movedWith p key st
@@ -85,7 +85,7 @@ module _ (s : List ℕ) (st : IterState) where
   module _ (o : ℕ) (goes : recoverOf s (st .place) ≡ From o) where
     -- a bare key in HTML mode
     bare-leaves : (key : Span) (at : ℕ) (c : Checked) → keyAt s o ≡ Bare key at → st .html ≡ true → c ≡ checkOf s checks (keysOf st) key → Leaves (bareTo s checks (keysOf st) key at c)
-    unfolding bareTo bareBy Left placeAt leaves keptBy writtenBy countBy keysOf
+    unfolding bareTo bareBy RowLeft placeAt leaves keptBy writtenBy countBy keysOf
     bare-leaves key at (Fresh n) e on v = (at, record { from = o; goes = goes; reads = e; html = on }, fresh (Empty key) (placeAt s at) key n v)
     bare-leaves key at (Same p) e on v = goesOn key at (record { from = o; goes = goes; reads = e; html = on }) refl refl
     bare-leaves key at Full e on v = refl
@@ -100,14 +100,14 @@ module _ (s : List ℕ) (st : IterState) where
       Value n x = Leaves (reading x (keptBy checks (keysOf st) key (Fresh n)))
 
       quoted-leaves : (n q : ℕ) (value : Span) → Fresh n ≡ checkOf s checks (keysOf st) key → Value n (closedOf q key value)
-      unfolding closedOf quoted Left
+      unfolding closedOf quoted RowLeft
       quoted-leaves n q value v =
           picks (λ (a : Answer). Value n (record { answer = a; place = Next (value .end + 1) })) (eqb q 34)
           (λ _. record { due = valued eq it; leaves = fresh _ _ key n v })
           (λ _. record { due = valued eq it; leaves = fresh _ _ key n v })
 
       value-leaves : (n : ℕ) → Fresh n ≡ checkOf s checks (keysOf st) key → Value n (valueAt s (st .html) key eq)
-      unfolding Left
+      unfolding RowLeft
       value-leaves n v =
           value-ways s (st .html) key eq _ refl (λ (x : Found) (_ : ℕ). Value n x)
           (λ l. (refl, record { key = key; eq = eq; due = it; leaves = fresh _ _ key n v }))
@@ -117,13 +117,13 @@ module _ (s : List ℕ) (st : IterState) where
           (λ l q m. record { key = key; eq = eq; due = it; leaves = fresh _ _ key n v })
 
       valued-leaves : (c : Checked) → c ≡ checkOf s checks (keysOf st) key → Leaves (valuedTo s (st .html) checks (keysOf st) key eq c)
-      unfolding valuedTo valuedBy Left leaves keptBy writtenBy countBy keysOf
+      unfolding valuedTo valuedBy RowLeft leaves keptBy writtenBy countBy keysOf
       valued-leaves (Fresh n) v = value-leaves n v
       valued-leaves (Same p) v = skipsFrom key eq it refl refl
       valued-leaves Full v = refl
 
     read-leaves : Leaves (readAt s (st .html) checks (keysOf st) o)
-    unfolding Left leaves keysOf placeAt leftBy
+    unfolding RowLeft leaves keysOf placeAt endLeft
     read-leaves =
         let h = starts-in s (st .place) o goes in
         step-ways s (st .html) checks (keysOf st) o h (λ (x : Reading) (_ : ℕ). Leaves x)
@@ -133,12 +133,12 @@ module _ (s : List ℕ) (st : IterState) where
         (λ key eq c e i a v. valued-leaves key eq e c v)
 
   step-leaves : Leaves (stepOf s (st .html) checks (keysOf st) (st .place))
-  unfolding stepOf stepFrom Left leaves keysOf leftBy
+  unfolding stepOf stepFrom RowLeft leaves keysOf endLeft
   step-leaves = by (recoverOf s (st .place)) refl where
     by : (x : Start) → recoverOf s (st .place) ≡ x → Leaves (stepFrom s (st .html) checks (keysOf st) (st .place) x)
     by (From o) e = read-leaves o e
     by Ended e = record { nothing = nowhere e; leaves = refl }
 
 pub leaves-exact : LeavesExact
-unfolding LeavesExact nextOf leaves badReading noKeys Left
+unfolding LeavesExact nextOf leaves badReading noKeys RowLeft
 leaves-exact s st = picks (Leaves s st) (stateGood s st) (λ _. step-leaves s st) (λ _. refl)

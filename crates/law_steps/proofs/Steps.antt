@@ -26,7 +26,7 @@ use Rattle.tag_step.specs.Next.{reading, readAt, placeGood, keysOf, stateGood, 
 use Rattle.tag_step.proofs.Paths.{key-none}
 use Rattle.tag_step.proofs.Whole.{at-in, starts-in, step-ended, step-reads, step-none, next-bad, next-steps}
 use Rattle.tag_step.proofs.Progress as progress
-use Rattle.law_steps.specs.Steps.{movedTo, Broken, NothingLeft, onlySpace, nowhere, leftBy, EndLeaves, Left, LeavesExact, EndExactly, EndStays, Beyond, Forward, StepForward}
+use Rattle.law_steps.specs.Steps.{movedTo, Broken, NothingLeft, onlySpace, nowhere, endLeft, EndLeaves, RowLeft, LeavesExact, EndExactly, EndStays, Beyond, Forward, StepForward}
 use Rattle.law_steps.proofs.Leaves.{leaves-exact}
 use Rattle.law_steps.proofs.Refusals.{good-whole, bad-broken}
 
@@ -60,8 +60,8 @@ module _ (s : List ℕ) (st : IterState) where
   done-ended = refl
 
 -- what the end leaves stays
-left-stays : (s : List ℕ) (st : IterState) → stateGood s st ≡ true → (x : NothingLeft s (st .place)) → nextOf s (leftBy s st x) ≡ ended (leftBy s st x)
-unfolding leftBy
+left-stays : (s : List ℕ) (st : IterState) → stateGood s st ≡ true → (x : NothingLeft s (st .place)) → nextOf s (endLeft s st x) ≡ ended (endLeft s st x)
+unfolding endLeft
 left-stays s st g (onlySpace o goes inside space) = stays s (movedTo Done st) (done-good s st g) (done-ended s st)
 left-stays s st g (nowhere goes) = stays s st g goes
 
@@ -69,9 +69,9 @@ end-leaves-stays : (s : List ℕ) (st left : IterState) → stateGood s st ≡ t
 end-leaves-stays s st left g l = rw (l .leaves) (left-stays s st g (l .nothing))
 
 pub end-stays : EndStays
-unfolding EndStays LeavesExact Left
+unfolding EndStays LeavesExact RowLeft
 end-stays s st e =
-    let l : EndLeaves s st (nextOf s st .state) = subst (λ (a : Answer). Left s st a (nextOf s st .state)) e (leaves-exact s st) in
+    let l : EndLeaves s st (nextOf s st .state) = subst (λ (a : Answer). RowLeft s st a (nextOf s st .state)) e (leaves-exact s st) in
     end-leaves-stays s st (nextOf s st .state) (end-good s st e) l ∙ ap (λ (a : Answer). record { answer = a; state = nextOf s st .state }) (sym e)
 
 -- Where only whitespace follows no key is read.
@@ -90,10 +90,10 @@ nothing-ends s st g (onlySpace o goes inside space) =
     (step-none s (st .html) (st .«check_duplicates») (keysOf st) (st .place) o goes (sym (space-no-key s o inside space)))))
 
 pub end-exactly : EndExactly
-unfolding EndExactly LeavesExact Left
+unfolding EndExactly LeavesExact RowLeft
 end-exactly s st full = (
   λ e.
-      (good-whole s st (end-good s st e), subst (λ (a : Answer). Left s st a (nextOf s st .state)) e (leaves-exact s st) .nothing),
+      (good-whole s st (end-good s st e), subst (λ (a : Answer). RowLeft s st a (nextOf s st .state)) e (leaves-exact s st) .nothing),
   λ whole. nothing-ends s st (by whole (stateGood s st) refl),
 ) where
   by : (Broken s st → ⊥) → (t : Bool) → stateGood s st ≡ t → stateGood s st ≡ true
@@ -121,7 +121,7 @@ module _ (s : List ℕ) (st : IterState) (more : nextOf s st .answer ≡ End →
         goes = e;
         inside = h;
         beyond = subst (λ (y : Step). Beyond s o (y .state .place)) (next-steps s st g (readAt s (st .html) (st .«check_duplicates») (keysOf st) o) r)
-            (after-beyond s o _ (progress.step-forward s (st .html) (st .«check_duplicates») (keysOf st) o h));
+            (after-beyond s o _ (progress.read-forward s (st .html) (st .«check_duplicates») (keysOf st) o h));
       }
 
 pub step-forward : StepForward

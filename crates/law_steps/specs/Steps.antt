@@ -136,13 +136,13 @@ pub data NothingLeft (s : List ℕ) (place : Place) : Type 0 where
   nowhere : recoverOf s place ≡ Ended → NothingLeft s place
 
 -- The end leaves done in the first case, else all "as it was".
-unfoldable pub leftBy : (s : List ℕ) (st : IterState) → NothingLeft s (st .place) → IterState
-leftBy s st (onlySpace o goes inside space) = movedTo Done st
-leftBy s st (nowhere ended) = st
+unfoldable pub endLeft : (s : List ℕ) (st : IterState) → NothingLeft s (st .place) → IterState
+endLeft s st (onlySpace o goes inside space) = movedTo Done st
+endLeft s st (nowhere ended) = st
 
 pub record EndLeaves (s : List ℕ) (st left : IterState) : Type 0 where
   pub nothing : NothingLeft s (st .place)
-  pub leaves : left ≡ leftBy s st nothing
+  pub leaves : left ≡ endLeft s st nothing
 
 -- The key that was read is recorded.
 pub record Records (s : List ℕ) (st left : IterState) (place : Place) (key : Span) : Type 0 where
@@ -163,23 +163,23 @@ pub data RepeatLeaves (s : List ℕ) (st left : IterState) (this : ℕ) : Type 0
 
 -- The column "Leaves", a row for each answer; the attributes, of which that table does not speak, as "Reading a tag" has
 -- it: reading goes on directly after the closing quote, where an unquoted value ends, and after a bare key as 1 leaves it.
-unfoldable pub Left : List ℕ → IterState → Answer → IterState → Type 0
-Left s st End left = EndLeaves s st left
-Left s st (DoubleQ key value) left = Records s st left (Next (value .end + 1)) key
-Left s st (SingleQ key value) left = Records s st left (Next (value .end + 1)) key
-Left s st (Unquoted key value) left = Records s st left (Next (value .end)) key
-Left s st (Empty key) left = (at : ℕ) × (BareKey s st key at) × (left ≡ movedWith (atOrDone s at) key st)
-Left s st (ExpectedEq pos) left = left ≡ movedTo (atOrDone s pos) st
-Left s st (ExpectedValue len) left = (len ≡ length s) × RecordsIts s st left Done
-Left s st (UnquotedValue pos) left = RecordsIts s st left (SkipValue pos)
-Left s st (ExpectedQuote len quote) left = (len ≡ length s) × RecordsIts s st left Done
-Left s st (Duplicated this earlier) left = RepeatLeaves s st left this
-Left s st (KeyTableFull this) left = left ≡ movedTo Done st
-Left s st BadState left = left ≡ emptied st
+unfoldable pub RowLeft : List ℕ → IterState → Answer → IterState → Type 0
+RowLeft s st End left = EndLeaves s st left
+RowLeft s st (DoubleQ key value) left = Records s st left (Next (value .end + 1)) key
+RowLeft s st (SingleQ key value) left = Records s st left (Next (value .end + 1)) key
+RowLeft s st (Unquoted key value) left = Records s st left (Next (value .end)) key
+RowLeft s st (Empty key) left = (at : ℕ) × (BareKey s st key at) × (left ≡ movedWith (atOrDone s at) key st)
+RowLeft s st (ExpectedEq pos) left = left ≡ movedTo (atOrDone s pos) st
+RowLeft s st (ExpectedValue len) left = (len ≡ length s) × RecordsIts s st left Done
+RowLeft s st (UnquotedValue pos) left = RecordsIts s st left (SkipValue pos)
+RowLeft s st (ExpectedQuote len quote) left = (len ≡ length s) × RecordsIts s st left Done
+RowLeft s st (Duplicated this earlier) left = RepeatLeaves s st left this
+RowLeft s st (KeyTableFull this) left = left ≡ movedTo Done st
+RowLeft s st BadState left = left ≡ emptied st
 
 -- Every step leaves what its answer's row says, every place of both tables, for every tag and every state.
 unfoldable pub LeavesExact : Type 0
-LeavesExact = (s : List ℕ) (st : IterState) → Left s st (nextOf s st .answer) (nextOf s st .state)
+LeavesExact = (s : List ℕ) (st : IterState) → RowLeft s st (nextOf s st .answer) (nextOf s st .state)
 
 -- The end comes exactly if 7 does not and there is nothing to read.
 unfoldable pub EndExactly : Type 0

@@ -1,3 +1,3 @@
 // What one step of the iterator answers and leaves, as laws over `nextOf`: when the end and refusals 6 and 7 come, document
 // 01's column "Leaves" row by row, that each answer moves reading on and that the end stays. Definitions (specs/) and
-// theorems (proofs/) over those of `attributes`; there is no code here.
+// theorems (proofs/) over those of `tag_step`; there is no code here.

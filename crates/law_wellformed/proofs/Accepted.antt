@@ -10,7 +10,7 @@ use borrow.Author.Tests.{eqb-true}
 use Rattle.scan.specs.First.{pick}
 use Rattle.scan.specs.Bytes.{isSpace, bytesFrom, bytes}
 use Rattle.scan.proofs.Bytes.{both}
-use Rattle.law_wellformed.specs.Grammar.{each, some, isIn, oneOf, nameByte, Quote, double, single, quoteByte, valueByte, Piece, byte, entity, pieceText, isPiece, valueText, arePieces, IsValue, Attribute, attributeThen, AttributeBy, Body, attributesThen, textOf, AttributesBy, WellFormed, HasBody}
+use Rattle.law_wellformed.specs.Grammar.{each, some, isIn, oneOf, nameByte, Quote, double, single, quoteByte, valueByte, Piece, byte, entity, pieceText, isPiece, valueText, arePieces, IsValue, Attribute, attributeThen, AttributeBy, Body, attributesThen, bodyText, AttributesBy, WellFormed, HasBody}
 use Rattle.law_wellformed.specs.Accept.{State, outside, spaced, inName, named, afterEq, inValue, ampersand, inReference, dead, after, passes, accepts, isBody}
 use Rattle.law_wellformed.proofs.Cursor.{some-each}
 use Rattle.law_wellformed.proofs.Tests.{space-no-name, name-no-space, name-value}
@@ -193,8 +193,8 @@ attributes-accepted [] w fine h = space-accepted w h
 attributes-accepted (a ∷ more) w fine h = rw (attribute-passes a (attributesThen more w) (fine .0)) (attributes-accepted more w (fine .1) h)
 
 -- complete: the text of each body is accepted
-pub body-accepted : (b : Body) → WellFormed b → isBody (textOf b) ≡ true
-unfolding isBody textOf
+pub body-accepted : (b : Body) → WellFormed b → isBody (bodyText b) ≡ true
+unfolding isBody bodyText
 body-accepted b fine = attributes-accepted (b .attributes) (b .after) (fine .attributes) (fine .after)
 
 -- What is accepted is a body.
@@ -270,12 +270,12 @@ over e x = subst HasBody e x
 
 -- whitespace alone
 space-body : (w : List ℕ) → each isSpace w ≡ true → HasBody w
-unfolding textOf attributesThen AttributesBy
+unfolding bodyText attributesThen AttributesBy
 space-body w h = record { body = record { attributes = []; after = w }; fine = record { attributes = tt; after = h }; text = refl }
 
 -- an attribute before a body
 attribute-body : (l : Lead) (q : Quote) (xs : List Piece) → arePieces q xs ≡ true → (s : List ℕ) → HasBody s → HasBody (openThen l q xs (quoteByte q ∷ s))
-unfolding textOf attributesThen AttributesBy attributeThen
+unfolding bodyText attributesThen AttributesBy attributeThen
 attribute-body l q xs h s x =
     record {
       body = record {

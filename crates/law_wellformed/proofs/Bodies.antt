@@ -13,7 +13,7 @@ use Rattle.scan.specs.First.{firstFrom}
 use Rattle.scan.specs.Bytes.{isSpace, notSpace}
 use Rattle.scan.proofs.Laws.{past, skip}
 use Rattle.tag_keys.specs.declared.Checked.the-variants.{Fresh}
-use Rattle.tag_keys.specs.Keys.{capacity, KeysIn, Room, nameAt, countBy}
+use Rattle.tag_keys.specs.Keys.{capacity, KeysIn, KeyRoom, nameAt, countBy}
 use Rattle.tag_keys.proofs.Laws.{in-table, keys-none, earlier-none, checked-off, checked-fresh, written-on, room-stays, keys-after}
 use Rattle.tag_step.specs.declared.Place.the-variants.{Done, Next}
 use Rattle.tag_step.specs.declared.Answer.{Answer}
@@ -25,7 +25,7 @@ use Rattle.tag_step.specs.Read.{span, found}
 use Rattle.tag_step.specs.Next.{Keys, reading, checkOf, keptBy, valuedBy, valuedTo, valuedOf, readKey, readAt, stepFrom, stepOf, placeGood, keysOf, stateGood, noKeys, leaves, nextOf, opened}
 use Rattle.tag_step.specs.Run.{isEnd, consUnless, runOf, answersOf}
 use Rattle.tag_step.proofs.Paths.{next-from, key-none}
-use Rattle.law_wellformed.specs.Grammar.{each, Quote, double, single, Attribute, attributeThen, Body, attributesThen, textOf, Quoted, AllQuoted, QuotedBody, Absent, Distinct}
+use Rattle.law_wellformed.specs.Grammar.{each, Quote, double, single, Attribute, attributeThen, Body, attributesThen, bodyText, Quoted, AllQuoted, QuotedBody, Absent, Distinct}
 use Rattle.law_wellformed.specs.Expected.{nameStart, nameEnd, next, inQuotes, attributeOf, attributesOf}
 use Rattle.law_wellformed.proofs.Cursor.{each-fails, word-at}
 use Rattle.law_wellformed.proofs.Tests.{space-fails}
@@ -51,7 +51,7 @@ only-space s o w here h le =
 -- Before the attributes `more` are read: the table is good, has room for their names, and holds none of them.
 pub record Awaits (s : List ℕ) (checks : Bool) (keys : Keys) (more : List Attribute) : Type 0 where
   pub inside : KeysIn (keys .starts) (keys .ends) (keys .count) (length s)
-  pub room : Room checks (keys .starts) (keys .ends)
+  pub room : KeyRoom checks (keys .starts) (keys .ends)
   pub few : checks ≡ true → keys .count + length more ≤ capacity
   pub fresh : checks ≡ true → (k : ℕ) → k < keys .count → Absent (nameAt s (keys .starts) (keys .ends) k) more
 
@@ -175,14 +175,14 @@ awaits-first s checks more few =
 -- what reading a body has to give, after any bytes, in both modes
 module _ (pre : List ℕ) (b : Body) (html checks : Bool) where
   abbrev pub Read : Type 0
-  Read = answersOf (pre ++ textOf b) (opened (length pre) html checks) ≡ attributesOf (length pre) (b .attributes)
+  Read = answersOf (pre ++ bodyText b) (opened (length pre) html checks) ≡ attributesOf (length pre) (b .attributes)
 
   -- Only with checks on do the names and their number matter.
   pub body-reads : QuotedBody b → (checks ≡ true → (length (b .attributes) ≤ capacity) × Distinct (b .attributes)) → Read
-  unfolding answersOf opened textOf
+  unfolding answersOf opened bodyText
   body-reads fine names =
-      let s = pre ++ textOf b in
+      let s = pre ++ bodyText b in
       reads-all s html checks (b .attributes) (b .after) (length pre) noKeys (suc (length s)) (fine .attributes) (fine .after) (λ on. names on .1)
       (awaits-first s checks (b .attributes) (λ on. names on .0))
-      (drop-append-seam pre (textOf b)) (omega (arith, length-append pre (textOf b)))
-      (omega (arith, length-append pre (textOf b), text-longer (b .attributes) (b .after)))
+      (drop-append-seam pre (bodyText b)) (omega (arith, length-append pre (bodyText b)))
+      (omega (arith, length-append pre (bodyText b), text-longer (b .attributes) (b .after)))

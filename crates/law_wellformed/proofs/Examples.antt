@@ -7,20 +7,20 @@ use mathlib.Core.Bool.{Bool, true, false}
 use mathlib.Core.List.{List, [], _∷_, _++_, map}
 use native.Mathlib.Omega.{arith}
 use lib.ListN.{length, replicate, length-replicate}
-use Rattle.scan.specs.First.{stopOr, firstOf, firstTo, firstFrom}
+use Rattle.scan.specs.First.{firstOf, firstTo, firstFrom}
 use Rattle.scan.specs.Bytes.{isSpace, notSpace, endsKey, isByte, part, sameBytes, bytesFrom, bytes}
 use Rattle.tag_keys.specs.Keys.{capacity, keyGood, keyBad, countGood, tableGood, nameAt, sameKey, oldestOf, earlierOf, checkedBy, checkedOf, writtenBy, countBy}
 use Rattle.tag_step.specs.declared.Place.the-variants.{SkipValue}
 use Rattle.tag_step.specs.declared.Start.the-variants.{From}
 use Rattle.tag_step.specs.declared.Answer.the-variants.{DoubleQ, SingleQ, Duplicated, BadState}
 use Rattle.tag_step.specs.declared.IterState.{IterState}
-use Rattle.tag_step.specs.Read.{span, isAt, isQuote, skipTo, skipOf, recoverOf, keyEq, keyTo, keyFrom, keyAt, quoted, closedOf, quotedTo, quotedOf, unquotedTo, otherOf, valueIn, valueFrom, valueAt}
+use Rattle.tag_step.specs.Read.{span, isAt, isQuote, skipTo, skipOf, recoverOf, keyEq, keyTo, keyFrom, keyAt, quoted, closedOf, quotedTo, quotedOf, unquotedTo, otherOf, valueBy, valueFrom, valueAt}
 use Rattle.tag_step.specs.Next.{checkOf, keptBy, placeAt, bareBy, bareTo, bareOf, valuedBy, valuedTo, valuedOf, readKey, readAt, stepFrom, stepOf, placeGood, keysOf, lentState, stateGood, noKeys, badReading, leaves, nextOf, opened}
 use Rattle.tag_step.specs.Run.{answersOf}
 use Rattle.tag_step.proofs.Good.{opened-sized, opened-good}
 use Rattle.tag_parts.specs.Parts.{keyPart, valuePart}
-use Rattle.law_wellformed.specs.Grammar.{each, some, isIn, oneOf, nameByte, double, single, quoteByte, valueByte, byte, pieceText, isPiece, valueText, arePieces, attributeThen, Body, attributesThen, textOf, AttributesBy, WellFormed, Lacks, AllQuoted, QuotedBody, Absent, Distinct}
-use Rattle.law_wellformed.specs.Expected.{nameStart, nameEnd, valueStart, valueEnd, next, inQuotes, attributeOf, attributesOf}
+use Rattle.law_wellformed.specs.Grammar.{each, some, isIn, oneOf, nameByte, double, single, quoteByte, valueByte, byte, pieceText, isPiece, valueText, arePieces, attributeThen, Body, attributesThen, bodyText, AttributesBy, WellFormed, Lacks, AllQuoted, QuotedBody, Absent, Distinct}
+use Rattle.law_wellformed.specs.Expected.{nameStart, nameEnd, valueStartAt, valueEndAt, next, inQuotes, attributeOf, attributesOf}
 use Rattle.law_wellformed.specs.Accept.{after, passes, accepts, isBody}
 use Rattle.law_wellformed.specs.Resume.{fromOrEnded, fromWhitespace, afterKey, afterDuplicate, resumesAt}
 use Rattle.law_wellformed.proofs.WellFormed.{well-formed-reads, quoted-reads, unchecked-reads, well-formed-parts}
@@ -65,8 +65,8 @@ shown =
       after = bytes " ";
     }
 
-shown-text : textOf shown ≡ bytes " a=\"1\" b = 'x \"y\"' "
-unfolding bytes bytesFrom textOf attributesThen attributeThen quoteByte
+shown-text : bodyText shown ≡ bytes " a=\"1\" b = 'x \"y\"' "
+unfolding bytes bytesFrom bodyText attributesThen attributeThen quoteByte
 shown-text = refl
 
 shown-is : WellFormed shown
@@ -99,12 +99,12 @@ shown-distinct = ((λ e. apart 97 98 [] [] (λ n. omega arith) e, tt), (tt, tt))
 
 -- Read after a tag's name, `el`, in XML mode with checks on.
 pub well-formed-example : answersOf (bytes "el a=\"1\" b = 'x \"y\"' ") (opened 2 false true) ≡ DoubleQ (span 3 4) (span 6 7) ∷ SingleQ (span 9 10) (span 14 19) ∷ []
-unfolding bytes bytesFrom textOf attributesThen attributeThen quoteByte nameStart nameEnd valueStart valueEnd next inQuotes attributeOf attributesOf
+unfolding bytes bytesFrom bodyText attributesThen attributeThen quoteByte nameStart nameEnd valueStartAt valueEndAt next inQuotes attributeOf attributesOf
 well-formed-example = well-formed-reads (bytes "el") shown shown-is (omega arith) shown-distinct false true .0
 
 -- and what is marked: the names, and the values
 pub parts-example :
-    let s = bytes "el" ++ textOf shown in
+    let s = bytes "el" ++ bodyText shown in
     let answers = answersOf s (opened 2 false true) in
     (map (keyPart s) answers ≡ bytes "a" ∷ bytes "b" ∷ []) × (map (valuePart s) answers ≡ bytes "1" ∷ bytes "x \"y\"" ∷ [])
 unfolding bytes bytesFrom
@@ -136,7 +136,7 @@ unfolding Distinct Absent bytes bytesFrom
 close-distinct = ((λ e. apart 97 98 [] [] (λ n. omega arith) e, tt), (tt, tt))
 
 pub quoted-example : answersOf (bytes "a=\"1\"b='<&'") (opened 0 false true) ≡ DoubleQ (span 0 1) (span 3 4) ∷ SingleQ (span 5 6) (span 8 10) ∷ []
-unfolding bytes bytesFrom textOf attributesThen attributeThen quoteByte nameStart nameEnd valueStart valueEnd next inQuotes attributeOf attributesOf
+unfolding bytes bytesFrom bodyText attributesThen attributeThen quoteByte nameStart nameEnd valueStartAt valueEndAt next inQuotes attributeOf attributesOf
 quoted-example = quoted-reads [] close close-is (omega arith) close-distinct false true
 
 -- One name twice, in HTML mode with checks off.
@@ -161,7 +161,7 @@ twice-is =
     }
 
 pub unchecked-example : answersOf (bytes " a='1' a=\"\"") (opened 0 true false) ≡ SingleQ (span 1 2) (span 4 5) ∷ DoubleQ (span 7 8) (span 10 10) ∷ []
-unfolding bytes bytesFrom textOf attributesThen attributeThen quoteByte nameStart nameEnd valueStart valueEnd next inQuotes attributeOf attributesOf
+unfolding bytes bytesFrom bodyText attributesThen attributeThen quoteByte nameStart nameEnd valueStartAt valueEndAt next inQuotes attributeOf attributesOf
 unchecked-example = unchecked-reads [] twice twice-is true
 
 -- A duplicate whose value has whitespace: reading resumes in that value, at 10, and not after it.
@@ -171,7 +171,7 @@ again = nextOf (bytes "a='1' a=\"2 3\" b='4'") (opened 0 false true) .state
 pub resume-example :
     let s = bytes "a='1' a=\"2 3\" b='4'" in
     (nextOf s again .answer ≡ Duplicated 6 0) × (recoverOf s (nextOf s again .state .place) ≡ From 10)
-unfolding stopOr firstOf firstTo firstFrom isSpace notSpace endsKey isByte part sameBytes bytesFrom bytes keyGood keyBad countGood tableGood nameAt sameKey oldestOf earlierOf checkedBy checkedOf writtenBy countBy isAt isQuote skipTo skipOf recoverOf keyEq keyTo keyFrom keyAt quoted closedOf quotedTo quotedOf unquotedTo otherOf valueIn valueFrom valueAt checkOf keptBy placeAt bareBy bareTo bareOf valuedBy valuedTo valuedOf readKey readAt stepFrom stepOf placeGood keysOf stateGood noKeys badReading leaves nextOf opened fromOrEnded fromWhitespace afterKey afterDuplicate resumesAt
+unfolding firstOf firstTo firstFrom isSpace notSpace endsKey isByte part sameBytes bytesFrom bytes keyGood keyBad countGood tableGood nameAt sameKey oldestOf earlierOf checkedBy checkedOf writtenBy countBy isAt isQuote skipTo skipOf recoverOf keyEq keyTo keyFrom keyAt quoted closedOf quotedTo quotedOf unquotedTo otherOf valueBy valueFrom valueAt checkOf keptBy placeAt bareBy bareTo bareOf valuedBy valuedTo valuedOf readKey readAt stepFrom stepOf placeGood keysOf stateGood noKeys badReading leaves nextOf opened fromOrEnded fromWhitespace afterKey afterDuplicate resumesAt
 resume-example = (refl, resume-exact (bytes "a='1' a=\"2 3\" b='4'") again)
 
 -- From an opened iterator there are at most as many answers as bytes; a skip place outside the tag is answered once, by 7.
@@ -183,5 +183,5 @@ abbrev outside : IterState
 outside = lentState (SkipValue 1) false true (replicate capacity 0) (replicate capacity 0) 0
 
 pub bad-run-example : answersOf (bytes "a") outside ≡ BadState ∷ []
-unfolding stopOr firstOf firstTo bytes bytesFrom keyGood keyBad countGood tableGood placeGood stateGood
+unfolding firstOf firstTo bytes bytesFrom keyGood keyBad countGood tableGood placeGood stateGood
 bad-run-example = bad-run-ends (bytes "a") outside (record { starts = length-replicate {A = ℕ} capacity 0; ends = length-replicate {A = ℕ} capacity 0 }) refl

@@ -14,7 +14,7 @@ use Rattle.tag_step.specs.declared.KeyRead.the-variants.{Valued}
 use Rattle.tag_step.specs.Read.{span, found, isQuote, keyAt, quoted, closedOf, quotedOf, valueAt}
 use Rattle.tag_step.proofs.Paths.{key-valued, value-quoted, quoted-closed}
 use Rattle.law_wellformed.specs.Grammar.{each, nameByte, Quote, double, single, quoteByte, Lacks, Attribute, attributeThen, Quoted}
-use Rattle.law_wellformed.specs.Expected.{nameStart, nameEnd, valueStart, valueEnd, next, inQuotes}
+use Rattle.law_wellformed.specs.Expected.{nameStart, nameEnd, valueStartAt, valueEndAt, next, inQuotes}
 use Rattle.law_wellformed.proofs.Cursor.{each-fails, some-each, some-length, some-first, move, part-is, rest-at, rest-inside, stops}
 use Rattle.law_wellformed.proofs.Tests.{space-fails, space-ends, name-content, name-goes-on, eq-ends, quote-content, quote-is, quote-closes, no-quote}
 
@@ -76,34 +76,34 @@ module _ (s : List ℕ) (o : ℕ) (a : Attribute) (rest : List ℕ) (here : drop
   at-quote : drop quoteAt s ≡ r₄
   at-quote = move s (eq + 1) (a .afterEq) r₄ past-eq
 
-  at-value : drop (valueStart o a) s ≡ a .value ++ r₅
-  unfolding valueStart
+  at-value : drop (valueStartAt o a) s ≡ a .value ++ r₅
+  unfolding valueStartAt
   at-value = move s quoteAt (q ∷ []) (a .value ++ r₅) at-quote
 
-  at-close : drop (valueEnd o a) s ≡ r₅
-  unfolding valueEnd
-  at-close = move s (valueStart o a) (a .value) r₅ at-value
+  at-close : drop (valueEndAt o a) s ≡ r₅
+  unfolding valueEndAt
+  at-close = move s (valueStartAt o a) (a .value) r₅ at-value
 
   -- the next attribute begins where this one ends
   pub at-next : drop (next o a) s ≡ rest
   unfolding next
-  at-next = move s (valueEnd o a) (q ∷ []) rest at-close
+  at-next = move s (valueEndAt o a) (q ∷ []) rest at-close
 
   pub next-inside : next o a ≤ length s
-  unfolding next valueEnd
-  next-inside = omega (arith, rest-inside s (valueStart o a) (a .value) r₅ at-value (omega arith))
+  unfolding next valueEndAt
+  next-inside = omega (arith, rest-inside s (valueStartAt o a) (a .value) r₅ at-value (omega arith))
 
   pub name-is : part s (nameStart o a) (nameEnd o a) ≡ a .name
   unfolding nameEnd
   name-is = part-is s (nameStart o a) (a .name) r₂ at-name
 
-  pub value-is : part s (valueStart o a) (valueEnd o a) ≡ a .value
-  unfolding valueEnd
-  value-is = part-is s (valueStart o a) (a .value) r₅ at-value
+  pub value-is : part s (valueStartAt o a) (valueEndAt o a) ≡ a .value
+  unfolding valueEndAt
+  value-is = part-is s (valueStartAt o a) (a .value) r₅ at-value
 
-  pub value-order : (valueStart o a ≤ valueEnd o a) × (valueEnd o a ≤ length s)
-  unfolding valueEnd
-  value-order = (omega arith, omega (arith, rest-inside s (valueStart o a) (a .value) r₅ at-value (omega arith)))
+  pub value-order : (valueStartAt o a ≤ valueEndAt o a) × (valueEndAt o a ≤ length s)
+  unfolding valueEndAt
+  value-order = (omega arith, omega (arith, rest-inside s (valueStartAt o a) (a .value) r₅ at-value (omega arith)))
 
   name-some : 0 < length (a .name)
   name-some = some-length nameByte (a .name) (fine .name)
@@ -142,8 +142,8 @@ module _ (s : List ℕ) (o : ℕ) (a : Attribute) (rest : List ℕ) (here : drop
   quote-at : getD s quoteAt 0 ≡ q
   quote-at = rest-at s (eq + 1) (a .afterEq) r₄ past-eq
 
-  pub value-read : (html : Bool) (key : Span) → valueAt s html key eq ≡ found (inQuotes (a .quote) key (span (valueStart o a) (valueEnd o a))) (Next (next o a))
-  unfolding next valueStart valueEnd Lacks
+  pub value-read : (html : Bool) (key : Span) → valueAt s html key eq ≡ found (inQuotes (a .quote) key (span (valueStartAt o a) (valueEndAt o a))) (Next (next o a))
+  unfolding next valueStartAt valueEndAt Lacks
   value-read html key =
       sym (value-quoted s html key eq quoteAt
       (sym (stops s (eq + 1) (a .afterEq) r₄ past-eq (omega arith) notSpace
@@ -152,9 +152,9 @@ module _ (s : List ℕ) (o : ℕ) (a : Attribute) (rest : List ℕ) (here : drop
       (rest-inside s (eq + 1) (a .afterEq) r₄ past-eq (omega arith))
       (ap isQuote quote-at ∙ quote-is (a .quote)))
       ∙ ap (λ (b : ℕ). quotedOf s b key (quoteAt + 1)) quote-at
-      ∙ sym (quoted-closed s q key (valueStart o a) (valueEnd o a)
-      (sym (stops s (valueStart o a) (a .value) r₅ at-value (omega arith) (isByte q)
+      ∙ sym (quoted-closed s q key (valueStartAt o a) (valueEndAt o a)
+      (sym (stops s (valueStartAt o a) (a .value) r₅ at-value (omega arith) (isByte q)
       (each-fails (isByte q) (λ b. not (eqb b q)) (no-quote (a .quote)) (a .value) (fine .value)) (quote-closes (a .quote))
-      (valueStart o a) (omega arith) (omega arith)))
-      (rest-inside s (valueStart o a) (a .value) r₅ at-value (omega arith)))
-      ∙ closed-is (a .quote) key (span (valueStart o a) (valueEnd o a))
+      (valueStartAt o a) (omega arith) (omega arith)))
+      (rest-inside s (valueStartAt o a) (a .value) r₅ at-value (omega arith)))
+      ∙ closed-is (a .quote) key (span (valueStartAt o a) (valueEndAt o a))

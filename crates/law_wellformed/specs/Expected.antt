@@ -25,22 +25,22 @@ unfoldable pub nameEnd : ℕ → Attribute → ℕ
 nameEnd at a = nameStart at a + length (a .name)
 
 -- past the `=` with its whitespace and the opening quote
-unfoldable pub valueStart : ℕ → Attribute → ℕ
-valueStart at a = nameEnd at a + length (a .beforeEq) + 1 + length (a .afterEq) + 1
+unfoldable pub valueStartAt : ℕ → Attribute → ℕ
+valueStartAt at a = nameEnd at a + length (a .beforeEq) + 1 + length (a .afterEq) + 1
 
-unfoldable pub valueEnd : ℕ → Attribute → ℕ
-valueEnd at a = valueStart at a + length (a .value)
+unfoldable pub valueEndAt : ℕ → Attribute → ℕ
+valueEndAt at a = valueStartAt at a + length (a .value)
 
 -- past the closing quote
 unfoldable pub next : ℕ → Attribute → ℕ
-next at a = valueEnd at a + 1
+next at a = valueEndAt at a + 1
 
 unfoldable pub inQuotes : Quote → Span → Span → Answer
 inQuotes double key value = DoubleQ key value
 inQuotes single key value = SingleQ key value
 
 unfoldable pub attributeOf : ℕ → Attribute → Answer
-attributeOf at a = inQuotes (a .quote) (span (nameStart at a) (nameEnd at a)) (span (valueStart at a) (valueEnd at a))
+attributeOf at a = inQuotes (a .quote) (span (nameStart at a) (nameEnd at a)) (span (valueStartAt at a) (valueEndAt at a))
 
 unfoldable pub attributesOf : ℕ → List Attribute → List Answer
 attributesOf at [] = []

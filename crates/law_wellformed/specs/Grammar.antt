@@ -124,8 +124,8 @@ unfoldable pub attributesThen : List Attribute → List ℕ → List ℕ
 attributesThen [] rest = rest
 attributesThen (a ∷ more) rest = attributeThen a (attributesThen more rest)
 
-unfoldable pub textOf : Body → List ℕ
-textOf b = attributesThen (b .attributes) (b .after)
+unfoldable pub bodyText : Body → List ℕ
+bodyText b = attributesThen (b .attributes) (b .after)
 
 unfoldable pub AttributesBy : (Quote → List ℕ → Type 0) → List Attribute → Type 0
 AttributesBy Val [] = Unit {0}
@@ -164,7 +164,7 @@ pub record QuotedBody (b : Body) : Type 0 where
 pub record HasBody (s : List ℕ) : Type 0 where
   pub body : Body
   pub fine : WellFormed body
-  pub text : textOf body ≡ s
+  pub text : bodyText body ≡ s
 
 -- Names.
 

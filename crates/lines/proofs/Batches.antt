@@ -24,10 +24,10 @@ use Rattle.tag_batch.specs.declared.Batch.{Batch}
 use Rattle.tag_batch.specs.declared.Batch.the-variants.{Read, WrongTables}
 use Rattle.tag_batch.specs.declared.Why.{Why}
 use Rattle.tag_batch.specs.declared.Why.the-variants.{AtEnd, LendMore}
-use Rattle.tag_batch.specs.Batch.{fiveOf, fivesOf, leftOf, Ran, ran, ahead, ranOf, tablesLent, roomOf, Batched, batched, shownOf, readOf, batchOf}
+use Rattle.tag_batch.specs.Batch.{fiveOf, fivesOf, leftOf, Ran, ran, ahead, ranOf, tablesLent, answersRoom, Batched, batched, batchShown, readOf, batchOf}
 use Rattle.tag_batch.proofs.Turns.{five-length}
 use Rattle.tag_batch.proofs.Full.{full-batch}
-use Rattle.lines.specs.Page.{answersIn}
+use Rattle.lines.specs.Page.{answersCount}
 
 -- A run of n answers.
 
@@ -141,16 +141,16 @@ ran-most zero s st = omega arith
 ran-most (suc n) s st = ran-by (needsMore s st) (isEnd (wholeNext s st .answer)) n (wholeNext s st .answer) st (steppedOf s st) (ranOf n s (steppedOf s st)) (ran-most n s (steppedOf s st))
 
 module _ (s : List ℕ) (st : IterState) (out : List ℕ) where
-  read-fits : 5 * length (ranOf (roomOf out) s st .answers) ≤ length out
-  unfolding roomOf
+  read-fits : 5 * length (ranOf (answersRoom out) s st .answers) ≤ length out
+  unfolding answersRoom
   read-fits = omega (arith, ran-most (length out / 5) s st)
 
   -- the output keeps its length, and has room for what was written
-  pub batch-sizes : (length (batchOf s st out .out) ≡ length out) × (5 * answersIn (batchOf s st out .batch) ≤ length out)
-  unfolding batchOf readOf shownOf
+  pub batch-sizes : (length (batchOf s st out .out) ≡ length out) × (5 * answersCount (batchOf s st out .batch) ≤ length out)
+  unfolding batchOf readOf batchShown
   batch-sizes = by (tablesLent st) where
-    by : (t : Bool) → (length (pick t (readOf s st out) (batched WrongTables (st .starts) (st .ends) out) .out) ≡ length out) × (5 * answersIn (pick t (readOf s st out) (batched WrongTables (st .starts) (st .ends) out) .batch) ≤ length out)
-    by true = (over-length out 0 (fivesOf (ranOf (roomOf out) s st .answers)) (omega (arith, read-fits, fives-length (ranOf (roomOf out) s st .answers))), read-fits)
+    by : (t : Bool) → (length (pick t (readOf s st out) (batched WrongTables (st .starts) (st .ends) out) .out) ≡ length out) × (5 * answersCount (pick t (readOf s st out) (batched WrongTables (st .starts) (st .ends) out) .batch) ≤ length out)
+    by true = (over-length out 0 (fivesOf (ranOf (answersRoom out) s st .answers)) (omega (arith, read-fits, fives-length (ranOf (answersRoom out) s st .answers))), read-fits)
     by false = (refl, omega arith)
 
 -- The mode and the checks stay.
@@ -173,7 +173,7 @@ module _ (s : List ℕ) (place : Place) (html checks : Bool) (starts ends : List
 
   module _ (z : Sized stood) {b : Batch} {starts' ends' written : List ℕ} (e : batched b starts' ends' written ≡ batchOf s stood out) where
     -- all that it has, for full tables
-    is : batched b starts' ends' written ≡ batched (Read (length (runOf (roomOf out) s stood)) (leftOf (roomOf out) s stood .place) (leftOf (roomOf out) s stood .count) (ranOf (roomOf out) s stood .why)) (leftOf (roomOf out) s stood .starts) (leftOf (roomOf out) s stood .ends) (over out 0 (fivesOf (runOf (roomOf out) s stood)))
+    is : batched b starts' ends' written ≡ batched (Read (length (runOf (answersRoom out) s stood)) (leftOf (answersRoom out) s stood .place) (leftOf (answersRoom out) s stood .count) (ranOf (answersRoom out) s stood .why)) (leftOf (answersRoom out) s stood .starts) (leftOf (answersRoom out) s stood .ends) (over out 0 (fivesOf (runOf (answersRoom out) s stood)))
     is = e ∙ full-batch s stood out z
 
     pub never-wrong : b ≡ WrongTables → ⊥
@@ -182,24 +182,24 @@ module _ (s : List ℕ) (place : Place) (html checks : Bool) (starts ends : List
         let x : _≡_ {A = ℕ} 0 1 = cc in
         omega arith
 
-    pub read-text : written ≡ over out 0 (fivesOf (runOf (roomOf out) s stood))
+    pub read-text : written ≡ over out 0 (fivesOf (runOf (answersRoom out) s stood))
     read-text = ap (λ (x : Batched). x .out) is
 
     module _ {n : ℕ} {next : Place} {keys : ℕ} {why : Why} (r : b ≡ Read n next keys why) where
-      pub read-count : n ≡ length (runOf (roomOf out) s stood)
+      pub read-count : n ≡ length (runOf (answersRoom out) s stood)
       read-count =
           let f = ap (λ (x : Batched). x .batch) is in
           cc
 
-      pub read-left : lentState next html checks starts' ends' keys ≡ leftOf (roomOf out) s stood
+      pub read-left : lentState next html checks starts' ends' keys ≡ leftOf (answersRoom out) s stood
       read-left =
           let f = ap (λ (x : Batched). x .batch) is in
-          let m = modes (roomOf out) s stood in
-          state-is (leftOf (roomOf out) s stood) (cc) (sym (m .0)) (sym (m .1)) (ap (λ (x : Batched). x .starts) is) (ap (λ (x : Batched). x .ends) is) (cc)
+          let m = modes (answersRoom out) s stood in
+          state-is (leftOf (answersRoom out) s stood) (cc) (sym (m .0)) (sym (m .1)) (ap (λ (x : Batched). x .starts) is) (ap (λ (x : Batched). x .ends) is) (cc)
 
-      pub read-front : take (5 * n) written ≡ fivesOf (runOf (roomOf out) s stood)
+      pub read-front : take (5 * n) written ≡ fivesOf (runOf (answersRoom out) s stood)
       unfolding over
       read-front =
-          let l : List Answer = runOf (roomOf out) s stood in
+          let l : List Answer = runOf (answersRoom out) s stood in
           let a : length (fivesOf l) ≡ 5 * n = fives-length l ∙ ap (λ (k : ℕ). 5 * k) (sym read-count) in
           ap (take (5 * n)) read-text ∙ take-at (fivesOf l) (drop (0 + length (fivesOf l)) out) (5 * n) a

@@ -15,12 +15,12 @@ use Rattle.tag_step.proofs.Good.{Sized}
 use Rattle.tag_step.specs.declared.Place.{Place}
 use Rattle.tag_step.specs.Next.{lentState}
 use Rattle.scan.specs.Lists.{over}
-use Rattle.tag_batch.specs.Batch.{fiveOf, fivesOf, roomOf, Batched, batched, batchOf}
+use Rattle.tag_batch.specs.Batch.{fiveOf, fivesOf, answersRoom, Batched, batched, batchOf}
 use Rattle.tag_batch.specs.declared.Batch.{Batch}
 use Rattle.tag_batch.proofs.Full.{full-batch}
 use Rattle.tag_batch.proofs.Turns.{five-length}
 use Rattle.lines.specs.Lines.{lineOf, linesOf, valuesOf, ownOf, fiveLines, linesIn}
-use Rattle.lines.specs.Page.{answersIn, PageLeft, pageLeft, linesBy, leftBy, pageOf}
+use Rattle.lines.specs.Page.{answersCount, PageLeft, pageLeft, linesBy, pageBy, pageOf}
 use Rattle.lines.specs.declared.Paged.{Paged}
 use Rattle.lines.proofs.Text.{lines-room}
 use Rattle.lines.proofs.Batches.{fives-length, run-most, read-front}
@@ -50,32 +50,32 @@ fives-text (a ∷ l) =
 -- With room for 107 bytes an answer, a page is the lines of the next answers of the run.
 pub page-lines : (s : List ℕ) (place : Place) (html checks : Bool) (starts ends : List ℕ) (count : ℕ) (numbers text : List ℕ) →
     let st = lentState place html checks starts ends count in
-    Sized st → 107 * roomOf numbers ≤ length text → linesBy (batchOf s st numbers) text ≡ linesOf (runOf (roomOf numbers) s st)
+    Sized st → 107 * answersRoom numbers ≤ length text → linesBy (batchOf s st numbers) text ≡ linesOf (runOf (answersRoom numbers) s st)
 unfolding linesBy
 page-lines s place html checks starts ends count numbers text z h =
     let st = lentState place html checks starts ends count in
-    let l : List Answer = runOf (roomOf numbers) s st in
+    let l : List Answer = runOf (answersRoom numbers) s st in
     let many = fives-length l in
-    let few = run-most (roomOf numbers) s st in
+    let few = run-most (answersRoom numbers) s st in
     let n : length (fivesOf l) / 5 ≡ length l = omega arith in
-    let front : take (5 * answersIn (batchOf s st numbers .batch)) (batchOf s st numbers .out) ≡ fivesOf l = rw (full-batch s st numbers z) (read-front s place html checks starts ends count numbers z (sym (full-batch s st numbers z)) refl) in
+    let front : take (5 * answersCount (batchOf s st numbers .batch)) (batchOf s st numbers .out) ≡ fivesOf l = rw (full-batch s st numbers z) (read-front s place html checks starts ends count numbers z (sym (full-batch s st numbers z)) refl) in
     rw (front, lines-room (fivesOf l) text (omega arith), n, fives-text l)
 
 -- what a page leaves, part by part
 module _ (s : List ℕ) (st : IterState) (numbers text : List ℕ) {p : Paged} {starts' ends' numbers' text' : List ℕ} (e : pageLeft p starts' ends' numbers' text' ≡ pageOf s st numbers text) where
   pub page-batch : batched (p .left) starts' ends' numbers' ≡ batchOf s st numbers
-  unfolding pageOf leftBy
+  unfolding pageOf pageBy
   page-batch = ap (λ (x : PageLeft). x .batch) e
 
   pub page-length : p .length ≡ length (linesBy (batchOf s st numbers) text)
-  unfolding pageOf leftBy
+  unfolding pageOf pageBy
   page-length = ap (λ (x : PageLeft). x .length) e
 
   pub page-text : text' ≡ over text 0 (linesBy (batchOf s st numbers) text)
-  unfolding pageOf leftBy
+  unfolding pageOf pageBy
   page-text = ap (λ (x : PageLeft). x .text) e
 
 -- what the code makes
-pub page-is : (s : List ℕ) (st : IterState) (numbers text : List ℕ) (left : Batch) (starts' ends' numbers' text' : List ℕ) (k len : ℕ) → batched left starts' ends' numbers' ≡ batchOf s st numbers → k ≡ answersIn left → len ≡ length (linesIn (take (5 * k) numbers') text) → text' ≡ over text 0 (linesIn (take (5 * k) numbers') text) → pageLeft (record { left = left; length = len }) starts' ends' numbers' text' ≡ pageOf s st numbers text
-unfolding pageOf leftBy linesBy
-page-is s st numbers text left starts' ends' numbers' text' k len e ek el et = rw (el, et, ek) (ap (λ (x : Batched). leftBy x text) e)
+pub page-is : (s : List ℕ) (st : IterState) (numbers text : List ℕ) (left : Batch) (starts' ends' numbers' text' : List ℕ) (k len : ℕ) → batched left starts' ends' numbers' ≡ batchOf s st numbers → k ≡ answersCount left → len ≡ length (linesIn (take (5 * k) numbers') text) → text' ≡ over text 0 (linesIn (take (5 * k) numbers') text) → pageLeft (record { left = left; length = len }) starts' ends' numbers' text' ≡ pageOf s st numbers text
+unfolding pageOf pageBy linesBy
+page-is s st numbers text left starts' ends' numbers' text' k len e ek el et = rw (el, et, ek) (ap (λ (x : Batched). pageBy x text) e)

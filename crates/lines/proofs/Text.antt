@@ -20,7 +20,7 @@ use Rattle.tag_step.specs.Numbers.{numbersOf}
 use Rattle.tag_batch.specs.Batch.{fiveOf, fivesOf}
 use Rattle.tag_batch.proofs.Turns.{five-length}
 use Rattle.lines.proofs.Parts.{Part, part-first, part-byte, part-next, part-last}
-use Rattle.lines.specs.Lines.{placesOf, decimalOf, spaced, letterOf, shownFrom, lineOf, linesOf, valuesOf, ownOf, fiveLines, linesIn}
+use Rattle.lines.specs.Lines.{digitCount, decimalOf, spaced, letterOf, shownFrom, lineOf, linesOf, valuesOf, ownOf, fiveLines, linesIn}
 
 -- Numbers.
 
@@ -28,13 +28,13 @@ pub digits-length : (b k n : ℕ) → length (digits b k n) ≡ k
 digits-length b zero n = refl
 digits-length b (suc k) n = length-append (digits b k (n / b)) _ ∙ rw (digits-length b k (n / b)) (add-one k)
 
-places-first : (n : ℕ) → IsFirst (λ k. ltb n (10 ^ k)) 1 20 (placesOf n)
-unfolding placesOf
+places-first : (n : ℕ) → IsFirst (λ k. ltb n (10 ^ k)) 1 20 (digitCount n)
+unfolding digitCount
 places-first n = to-first (λ k. ltb n (10 ^ k)) 1 20 (omega arith)
 
 pub decimal-length : (n : ℕ) → length (decimalOf n) ≤ 20
 unfolding decimalOf
-decimal-length n = omega (arith, digits-length 10 (placesOf n) n, places-first n .inside)
+decimal-length n = omega (arith, digits-length 10 (digitCount n) n, places-first n .inside)
 
 -- the fewest places that hold a number of 64 bits are those of the definition
 module _ (n k : ℕ) (f : Fewest 10 1 n k) (fits : n < 2 ^ 64) where
@@ -54,9 +54,9 @@ module _ (n k : ℕ) (f : Fewest 10 1 n k) (fits : n < 2 ^ 64) where
       let up : 10 ^ j ≤ 10 ^ (k - 1) = pow-le-pow-right {n = 10} (omega arith) {i = j} {j = k - 1} (omega arith) in
       le-ltb n (10 ^ j) (omega arith)
 
-  pub places-are : k ≡ placesOf n
+  pub places-are : k ≡ digitCount n
   places-are =
-      first-only (λ k. ltb n (10 ^ k)) 1 20 k (placesOf n)
+      first-only (λ k. ltb n (10 ^ k)) 1 20 k (digitCount n)
       (record { ahead = f .0; inside = small; found = λ _. lt-ltb n (10 ^ k) (f .1); before = fewer })
       (places-first n)
 

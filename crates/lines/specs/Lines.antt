@@ -12,11 +12,11 @@ use Rattle.tag_step.specs.declared.Answer.{Answer}
 use Rattle.tag_step.specs.Numbers.{numbersOf}
 
 -- how many decimal digits a number has: the fewest that hold it, and at least one; none of 64 bits has more than 20
-unfoldable pub placesOf : ℕ → ℕ
-placesOf n = firstTo (λ k. ltb n (10 ^ k)) 1 20
+unfoldable pub digitCount : ℕ → ℕ
+digitCount n = firstTo (λ k. ltb n (10 ^ k)) 1 20
 
 unfoldable pub decimalOf : ℕ → List ℕ
-decimalOf n = digits 10 (placesOf n) n
+decimalOf n = digits 10 (digitCount n) n
 
 -- numbers, a blank (32) before each
 unfoldable pub spaced : List ℕ → List ℕ
@@ -42,7 +42,7 @@ linesOf (a ∷ more) = lineOf (numbersOf a) ++ linesOf more
 
 -- The same from the five numbers that a batch writes for each answer, of which the last may be zeros that say nothing.
 
--- how many values a number of `numbersOf` has (`own-numbers`, proofs/Text)
+-- how many values a number of `numbersOf` has (`own-numbers`, proofs/Pages)
 unfoldable pub valuesOf : ℕ → ℕ
 valuesOf code =
     pick (eqb code 0) 0
@@ -55,7 +55,7 @@ valuesOf code =
 unfoldable pub ownOf : List ℕ → List ℕ
 ownOf five = take (suc (valuesOf (getD five 0 0))) five
 
--- the lines of the first n fives (`fives-text`, proofs/Text)
+-- the lines of the first n fives (`fives-text`, proofs/Pages)
 unfoldable pub fiveLines : ℕ → List ℕ → List ℕ
 fiveLines zero ns = []
 fiveLines (suc n) ns = lineOf (ownOf (take 5 ns)) ++ fiveLines n (drop 5 ns)

@@ -11,9 +11,9 @@ use Rattle.lines.specs.declared.Paged.{Paged}
 use Rattle.lines.specs.Lines.{linesIn}
 
 -- how many answers a batch wrote
-abbrev pub answersIn : Batch → ℕ
-answersIn (Read n place count why) = n
-answersIn WrongTables = 0
+abbrev pub answersCount : Batch → ℕ
+answersCount (Read n place count why) = n
+answersCount WrongTables = 0
 
 -- what a page leaves: a batch, and the text with its length
 pub record PageLeft : Type 0 where
@@ -31,11 +31,11 @@ pageLeft p starts ends numbers text =
 
 -- the lines of the numbers that a batch wrote, in a text that has room for them
 unfoldable pub linesBy : Batched → List ℕ → List ℕ
-linesBy x text = linesIn (take (5 * answersIn (x .batch)) (x .out)) text
+linesBy x text = linesIn (take (5 * answersCount (x .batch)) (x .out)) text
 
-unfoldable pub leftBy : Batched → List ℕ → PageLeft
-leftBy x text = record { batch = x; length = length (linesBy x text); text = over text 0 (linesBy x text) }
+unfoldable pub pageBy : Batched → List ℕ → PageLeft
+pageBy x text = record { batch = x; length = length (linesBy x text); text = over text 0 (linesBy x text) }
 
 -- (`page-lines`, proofs/Pages: with room for them, the lines of the answers)
 unfoldable pub pageOf : List ℕ → IterState → List ℕ → List ℕ → PageLeft
-pageOf s st numbers text = leftBy (batchOf s st numbers) text
+pageOf s st numbers text = pageBy (batchOf s st numbers) text

@@ -13,7 +13,7 @@ ghost use lib.ListN.{length};
 ghost use Rattle.scan.specs.Lists.{over};
 ghost use Rattle.tag_step.specs.Next.{lentState};
 ghost use Rattle.lines.specs.Lines.{decimalOf, spaced, letterOf, shownFrom, valuesOf, ownOf, lineOf, linesIn};
-ghost use Rattle.lines.specs.Page.{answersIn, pageLeft, pageOf};
+ghost use Rattle.lines.specs.Page.{answersCount, pageLeft, pageOf};
 
 // No line is longer: a letter, five numbers of at most 20 digits with a blank before each, a line feed.
 pub const LONGEST: usize = 107;
@@ -145,7 +145,7 @@ pub fn put_lines(numbers: &[usize], out: &mut [u8]) -> usize
 
 // How many answers a batch wrote.
 pub fn answers(left: Batch) -> usize
-    ensures { λ r. ⌜ r ≡ answersIn left ⌝ }
+    ensures { λ r. ⌜ r ≡ answersCount left ⌝ }
 {
     match left {
         Batch::Read(n, _, _, _) => n,
@@ -159,14 +159,19 @@ pub struct Paged {
     pub length: usize,
 }
 
+// How a tag is read: in HTML mode or in XML mode, and whether keys are checked and recorded.
+pub struct Mode {
+    pub html: bool,
+    pub checks: bool,
+}
+
 // The lines of the next answers of a run, as many as `numbers` holds, at the front of `out`. The rest is as in
 // `tag_batch::read_batch`.
 pub fn page<'a>(
     tag: &[u8],
     starts: &'a mut [usize],
     ends: &'a mut [usize],
-    html: bool,
-    checks: bool,
+    mode: Mode,
     count: usize,
     place: Place,
     numbers: &mut [usize],
@@ -174,8 +179,10 @@ pub fn page<'a>(
 ) -> Paged
     ensures { λ r.
         ⌜ pageLeft r (now (starts .exit)) (now (ends .exit)) (now (numbers .exit)) (now (out .exit))
-        ≡ pageOf (now (tag .entry)) (lentState place html checks (now (starts .entry)) (now (ends .entry)) count) (now (numbers .entry)) (now (out .entry)) ⌝ }
+        ≡ pageOf (now (tag .entry)) (lentState place (mode .html) (mode .checks) (now (starts .entry)) (now (ends .entry)) count) (now (numbers .entry)) (now (out .entry)) ⌝ }
 {
+    let html = mode.html;
+    let checks = mode.checks;
     let left = tag_batch::read_batch(tag, starts, ends, html, checks, count, place, numbers);
     let to = 5 * answers(left);
     let length = put_lines(&numbers[..to], out);

@@ -11,8 +11,8 @@ use Rattle.scan.specs.First.{pick}
 use Rattle.scan.specs.Bytes.{bytes, bytesFrom, sameBytes}
 use Rattle.name.specs.Reserved.{xmlPrefix, xmlnsPrefix, xmlUri, xmlnsUri, isXml, isXmlns, isXmlUri, isXmlnsUri}
 use Rattle.name.specs.Declares.{opening, isNamed, declaresOf, declaresNumber, declaredPrefix}
-use Rattle.name.specs.declared.Declares.{Declares}
-use Rattle.name.specs.declared.Declares.the-variants.{Nothing, Default, Named}
+use Rattle.name.specs.declared.PrefixDeclaration.{PrefixDeclaration}
+use Rattle.name.specs.declared.PrefixDeclaration.the-variants.{Nothing, Default, Named}
 use Rattle.scan.proofs.Laws.{picks}
 use Rattle.scan.proofs.Bytes.{same-refl, same-eq, same-ne}
 
@@ -201,15 +201,15 @@ pub nothing-of : (name : List ℕ) → (name ≡ xmlnsPrefix → ⊥) → ((p : 
 nothing-of name d n = declares-cases name (λ x e. absurd (d (xmlns-eq name x))) (λ x e. absurd (n (declaredPrefix name) (named-splits name x))) (λ x y e. e)
 
 -- The number tells what a name declares apart.
-abbrev declaresAt : ℕ → Declares
+abbrev declaresAt : ℕ → PrefixDeclaration
 declaresAt n = pick (eqb n 0) Nothing (pick (eqb n 1) Default Named)
 
-declares-from : (d : Declares) → d ≡ declaresAt (declaresNumber d)
+declares-from : (d : PrefixDeclaration) → d ≡ declaresAt (declaresNumber d)
 declares-from Nothing = refl
 declares-from Default = refl
 declares-from Named = refl
 
-pub declares-apart : (a b : Declares) → declaresNumber a ≡ declaresNumber b → a ≡ b
+pub declares-apart : (a b : PrefixDeclaration) → declaresNumber a ≡ declaresNumber b → a ≡ b
 declares-apart a b e = declares-from a ∙ ap declaresAt e ∙ sym (declares-from b)
 
 -- What each test of the code decides.

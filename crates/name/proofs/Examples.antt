@@ -4,7 +4,7 @@ use Prim.Native.Nat.{ℕ}
 use Prim.Native.String.{String}
 use mathlib.Core.Path.{_≡_, refl}
 use mathlib.Core.List.{List, [], _∷_, map}
-use Rattle.scan.specs.First.{firstFrom, firstTo, firstOf, stopOr}
+use Rattle.scan.specs.First.{firstFrom, firstTo, firstOf}
 use Rattle.scan.specs.Bytes.{bytes, bytesFrom, sameBytes, isByte}
 use Rattle.name.specs.Split.{colonAt, hasColon, colonOf, prefixOf, localAt, localOf}
 use Rattle.name.specs.Reserved.{xmlPrefix, xmlnsPrefix, xmlUri, xmlnsUri, isXml, isXmlns, isXmlUri, isXmlnsUri}
@@ -13,8 +13,8 @@ use Rattle.name.specs.Bind.{reservedBind}
 use Rattle.name.specs.Verdict.{isEmpty, isOther, isRefused, verdictNamed, verdictOn, verdictOf}
 use Rattle.name.specs.declared.Colon.{Colon}
 use Rattle.name.specs.declared.Colon.the-variants.{At, Nowhere}
-use Rattle.name.specs.declared.Declares.{Declares}
-use Rattle.name.specs.declared.Declares.the-variants.{Nothing, Default, Named}
+use Rattle.name.specs.declared.PrefixDeclaration.{PrefixDeclaration}
+use Rattle.name.specs.declared.PrefixDeclaration.the-variants.{Nothing, Default, Named}
 use Rattle.name.specs.declared.NamedCheck.{NamedCheck}
 use Rattle.name.specs.declared.NamedCheck.the-variants.{Fine, AddsNothing, InvalidXmlPrefixBind, InvalidXmlnsPrefixBind, InvalidPrefixForXml, InvalidPrefixForXmlns}
 use Rattle.name.specs.declared.Verdict.{Verdict}
@@ -25,13 +25,13 @@ record Split : Type 0 where
   colon : Colon
   prefix : List ℕ
   local : List ℕ
-  declares : Declares
+  declares : PrefixDeclaration
   declared : List ℕ
 
 abbrev splitOf : String → Split
 splitOf name = record { colon = colonOf (bytes name); prefix = prefixOf (bytes name); local = localOf (bytes name); declares = declaresOf (bytes name); declared = declaredPrefix (bytes name) }
 
-abbrev splits : Colon → String → String → Declares → String → Split
+abbrev splits : Colon → String → String → PrefixDeclaration → String → Split
 splits colon prefix local declares declared = record { colon = colon; prefix = bytes prefix; local = bytes local; declares = declares; declared = bytes declared }
 
 pub names-split :
@@ -50,7 +50,7 @@ pub names-split :
     ∷ splits (At 3) "xml" "a" Nothing ""
     ∷ splits (At 5) "Xmlns" "p" Nothing ""
     ∷ []
-unfolding colonOf hasColon colonAt prefixOf localOf localAt declaresOf declaredPrefix isNamed opening isXmlns xmlnsPrefix firstFrom firstTo firstOf stopOr isByte sameBytes bytes bytesFrom
+unfolding colonOf hasColon colonAt prefixOf localOf localAt declaresOf declaredPrefix isNamed opening isXmlns xmlnsPrefix firstFrom firstTo firstOf isByte sameBytes bytes bytesFrom
 names-split = refl
 
 -- what is said of one declaration: by Namespaces 1.0, and by the rules on what is reserved (of the declared prefix, which
@@ -97,5 +97,5 @@ pub declarations-judged :
     ∷ is Yes Fine
     ∷ is NoDeclaration Fine
     ∷ []
-unfolding verdictOf verdictOn verdictNamed isRefused isOther isEmpty reservedBind hasColon colonAt declaresOf declaredPrefix isNamed opening isXml isXmlns isXmlUri isXmlnsUri xmlPrefix xmlnsPrefix xmlUri xmlnsUri firstFrom firstTo firstOf stopOr isByte sameBytes bytes bytesFrom
+unfolding verdictOf verdictOn verdictNamed isRefused isOther isEmpty reservedBind hasColon colonAt declaresOf declaredPrefix isNamed opening isXml isXmlns isXmlUri isXmlnsUri xmlPrefix xmlnsPrefix xmlUri xmlnsUri firstFrom firstTo firstOf isByte sameBytes bytes bytesFrom
 declarations-judged = refl

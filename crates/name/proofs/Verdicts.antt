@@ -8,20 +8,20 @@ use mathlib.Core.Logic.{⊎-elim}
 use native.Mathlib.Omega.{arith}
 use types.Run.{OneOf}
 use denote.Enum.Declared.{tagOf}
-use lib.ListN.{length}
+use lib.ListN.{length, getD}
 use lib.Dec.{eqb, ltb}
 use borrow.Author.Tests.{eqb-false, eq-eqb, ne-eqb, not-true, not-false}
-use Rattle.scan.specs.First.{pick, firstFrom, firstTo, firstOf, stopOr}
+use Rattle.scan.specs.First.{pick, firstFrom, firstTo, firstOf}
 use Rattle.scan.specs.Bytes.{bytes, bytesFrom, sameBytes, isByte}
 use Rattle.scan.proofs.Bytes.{both-false}
 use Rattle.name.specs.Split.{hasColon, colonAt}
 use Rattle.name.specs.Reserved.{xmlPrefix, xmlnsPrefix, xmlUri, xmlnsUri, isXml, isXmlns, isXmlUri, isXmlnsUri}
-use Rattle.name.specs.Bind.{reservedBind, numberOf}
+use Rattle.name.specs.Bind.{reservedBind, namedNumbers, numberOf}
 use Rattle.name.specs.Declares.{declaresOf, declaredPrefix}
 use Rattle.name.specs.Verdict.{isEmpty, isOther, isRefused, verdictNamed, verdictOn, verdictOf, verdictNumber}
 use Rattle.name.specs.declared.NamedCheck.{NamedCheck}
 use Rattle.name.specs.declared.NamedCheck.the-variants.{Fine, AddsNothing, InvalidXmlPrefixBind, InvalidXmlnsPrefixBind, InvalidPrefixForXml, InvalidPrefixForXmlns}
-use Rattle.name.specs.declared.Declares.the-variants.{Named}
+use Rattle.name.specs.declared.PrefixDeclaration.the-variants.{Named}
 use Rattle.name.specs.declared.Verdict.{Verdict}
 use Rattle.name.specs.declared.Verdict.the-variants.{Yes, No, NoDeclaration}
 use Rattle.name.proofs.Declared.{xml-eq, xml-uri-eq}
@@ -65,7 +65,7 @@ unfoldable pub isRefusal : NamedCheck → Bool
 isRefusal c = ltb 0 (numberOf c)
 
 refusal-refused : (x n u w rest : Bool) → isRefusal (bindBy x n u w) ≡ true → refusedBy x n u w rest ≡ true
-unfolding isRefusal numberOf
+unfolding isRefusal namedNumbers
 refusal-refused true n true w rest h = absurd (false≢true h)
 refusal-refused true true false w rest h = refl
 refusal-refused true false false w rest h = refl
@@ -93,7 +93,7 @@ own-tests false false false false h = let z : _≡_ {A = ℕ} 0 1 = cc in absurd
 
 -- `xml` to its own URI is allowed
 own-allowed : verdictNamed xmlPrefix xmlUri ≡ true
-unfolding verdictNamed isRefused isXml isXmlns isXmlUri isXmlnsUri isOther isEmpty hasColon colonAt firstFrom firstTo firstOf stopOr isByte sameBytes xmlPrefix xmlnsPrefix xmlUri xmlnsUri bytes bytesFrom
+unfolding verdictNamed isRefused isXml isXmlns isXmlUri isXmlnsUri isOther isEmpty hasColon colonAt firstFrom firstTo firstOf isByte sameBytes xmlPrefix xmlnsPrefix xmlUri xmlnsUri bytes bytesFrom
 own-allowed = refl
 
 module _ (prefix value : List ℕ) where
@@ -128,7 +128,7 @@ module _ (prefix value : List ℕ) where
 
 -- the code's last arm of four
 pub four-refusals : (c : NamedCheck) → OneOf (2 ∷ 3 ∷ 4 ∷ 5 ∷ []) (tagOf checks.the-type c) → isRefusal c ≡ true
-unfolding isRefusal numberOf
+unfolding isRefusal namedNumbers
 four-refusals Fine k = absurd (⊎-elim (eqb-false 0 2 refl) (⊎-elim (eqb-false 0 3 refl) (⊎-elim (eqb-false 0 4 refl) (eqb-false 0 5 refl))) k)
 four-refusals AddsNothing k = absurd (⊎-elim (eqb-false 1 2 refl) (⊎-elim (eqb-false 1 3 refl) (⊎-elim (eqb-false 1 4 refl) (eqb-false 1 5 refl))) k)
 four-refusals InvalidXmlPrefixBind k = refl
@@ -141,23 +141,27 @@ pub named-verdict : (name value prefix : List ℕ) → declaresOf name ≡ Named
 unfolding verdictOf verdictOn
 named-verdict name value prefix d e v = rw (d, ← e, v)
 
--- the refusal of a number
-abbrev checkOf : ℕ → NamedCheck
-checkOf n = pick (eqb n 12) InvalidXmlPrefixBind (pick (eqb n 13) InvalidXmlnsPrefixBind (pick (eqb n 14) InvalidPrefixForXml InvalidPrefixForXmlns))
+-- The numbers tell all cases apart: each can be read back from them.
 
-from-number : (c : NamedCheck) → isRefusal c ≡ true → c ≡ checkOf (numberOf c)
-unfolding isRefusal numberOf
-from-number Fine h = absurd (false≢true h)
-from-number AddsNothing h = absurd (false≢true h)
-from-number InvalidXmlPrefixBind h = refl
-from-number InvalidXmlnsPrefixBind h = refl
-from-number InvalidPrefixForXml h = refl
-from-number InvalidPrefixForXmlns h = refl
+namedBy : List ℕ → NamedCheck
+namedBy l =
+    pick (eqb (getD l 0 0) 12) InvalidXmlPrefixBind
+    (pick (eqb (getD l 0 0) 13) InvalidXmlnsPrefixBind
+    (pick (eqb (getD l 0 0) 14) InvalidPrefixForXml
+    (pick (eqb (getD l 0 0) 15) InvalidPrefixForXmlns
+    (pick (eqb (getD l 1 0) 1) Fine AddsNothing))))
 
--- The number tells the refusals apart.
-pub refusals-apart : (a b : NamedCheck) → isRefusal a ≡ true → numberOf a ≡ numberOf b → a ≡ b
-unfolding isRefusal
-refusals-apart a b h e = from-number a h ∙ ap checkOf e ∙ sym (from-number b (sym (ap (ltb 0) e) ∙ h))
+named-back : (c : NamedCheck) → namedBy (namedNumbers c) ≡ c
+unfolding namedNumbers namedBy
+named-back Fine = refl
+named-back AddsNothing = refl
+named-back InvalidXmlPrefixBind = refl
+named-back InvalidXmlnsPrefixBind = refl
+named-back InvalidPrefixForXml = refl
+named-back InvalidPrefixForXmlns = refl
+
+pub named-apart : (a b : NamedCheck) → namedNumbers a ≡ namedNumbers b → a ≡ b
+named-apart a b e = sym (named-back a) ∙ ap namedBy e ∙ named-back b
 
 -- Each clause of the verdict, where it is a yes.
 pub record Allowed (prefix value : List ℕ) : Type 0 where

@@ -1,6 +1,7 @@
 -- What the reserved prefixes and URIs say of binding a named prefix to a value: refusals 12 to 15.
 use Prim.Native.Nat.{ℕ}
-use mathlib.Core.List.{List, []}
+use mathlib.Core.List.{List, [], _∷_}
+use lib.ListN.{getD}
 use Rattle.scan.specs.First.{pick}
 use Rattle.name.specs.Reserved.{isXml, isXmlns, isXmlUri, isXmlnsUri}
 use Rattle.name.specs.declared.NamedCheck.{NamedCheck}
@@ -16,14 +17,19 @@ reservedBind prefix value =
     (pick (isXmlnsUri value) InvalidPrefixForXmlns
     Fine)))
 
--- the refusal's number, and 0 where nothing is refused
-unfoldable pub numberOf : NamedCheck → ℕ
-numberOf Fine = 0
-numberOf AddsNothing = 0
-numberOf InvalidXmlPrefixBind = 12
-numberOf InvalidXmlnsPrefixBind = 13
-numberOf InvalidPrefixForXml = 14
-numberOf InvalidPrefixForXmlns = 15
+-- Each answer by numbers: a refusal has document 01's, and its value there is a text (`refusedText`). Where nothing is refused
+-- there is none, and it is 0 with how many bindings are to be added.
+unfoldable pub namedNumbers : NamedCheck → List ℕ
+namedNumbers Fine = 0 ∷ 1 ∷ []
+namedNumbers AddsNothing = 0 ∷ 0 ∷ []
+namedNumbers InvalidXmlPrefixBind = 12 ∷ []
+namedNumbers InvalidXmlnsPrefixBind = 13 ∷ []
+namedNumbers InvalidPrefixForXml = 14 ∷ []
+namedNumbers InvalidPrefixForXmlns = 15 ∷ []
+
+-- the number alone
+abbrev pub numberOf : NamedCheck → ℕ
+numberOf c = getD (namedNumbers c) 0 0
 
 -- the text that the refusal holds, of the prefix and the value that were to be bound
 unfoldable pub refusedText : NamedCheck → (prefix value : List ℕ) → List ℕ

@@ -8,8 +8,8 @@ use Rattle.scan.specs.First.{pick}
 use Rattle.name.specs.Split.{hasColon}
 use Rattle.name.specs.Reserved.{isXml, isXmlns, isXmlUri, isXmlnsUri}
 use Rattle.name.specs.Declares.{declaresOf, declaredPrefix}
-use Rattle.name.specs.declared.Declares.{Declares}
-use Rattle.name.specs.declared.Declares.the-variants.{Nothing, Default, Named}
+use Rattle.name.specs.declared.PrefixDeclaration.{PrefixDeclaration}
+use Rattle.name.specs.declared.PrefixDeclaration.the-variants.{Nothing, Default, Named}
 use Rattle.name.specs.declared.Verdict.{Verdict}
 use Rattle.name.specs.declared.Verdict.the-variants.{Yes, No, NoDeclaration}
 
@@ -35,7 +35,7 @@ unfoldable pub verdictNamed : (prefix value : List ℕ) → Bool
 verdictNamed prefix value = not (isRefused prefix value)
 
 -- A default declaration has no prefix, so none of this refuses it.
-unfoldable pub verdictOn : Declares → (prefix value : List ℕ) → Verdict
+unfoldable pub verdictOn : PrefixDeclaration → (prefix value : List ℕ) → Verdict
 verdictOn Nothing prefix value = NoDeclaration
 verdictOn Default prefix value = Yes
 verdictOn Named prefix value = pick (verdictNamed prefix value) Yes No

@@ -7,7 +7,7 @@ ghost use mathlib.Core.Path.{_≡_};
 ghost use Rattle.name.specs.Split.{colonAt, colonOf, prefixOf, localOf, partsOf};
 ghost use Rattle.name.specs.Reserved.{isXml, isXmlns, isXmlUri, isXmlnsUri};
 ghost use Rattle.name.specs.Declares.{declaresOf, declaresNumber, declaredPrefix};
-ghost use Rattle.name.specs.Bind.{reservedBind};
+ghost use Rattle.name.specs.Bind.{reservedBind, namedNumbers};
 ghost use Rattle.name.specs.Verdict.{verdictNamed, verdictOf, verdictNumber};
 
 // Where the first colon of a name is. `:a` has one at 0, so its prefix is there and empty; `a` has none, and no prefix.
@@ -25,7 +25,7 @@ pub struct Parts {
 
 // What a name declares when an attribute has it: `Option<PrefixDeclaration>` of src/name.rs. The prefix of a `Named` one
 // is `declared_prefix` of the same name.
-pub enum Declares {
+pub enum PrefixDeclaration {
     // `a`, `xml`, `xmlnsa`
     Nothing,
     // `xmlns`
@@ -34,15 +34,15 @@ pub enum Declares {
     Named,
 }
 
-impl Declares {
+impl PrefixDeclaration {
     // As a number, for an exported function, which hands out no enum. The crate has no such number.
     pub fn number(self) -> usize
         ensures { λ r. ⌜ r ≡ declaresNumber self ⌝ }
     {
         match self {
-            Declares::Nothing => 0,
-            Declares::Default => 1,
-            Declares::Named => 2,
+            PrefixDeclaration::Nothing => 0,
+            PrefixDeclaration::Default => 1,
+            PrefixDeclaration::Named => 2,
         }
     }
 }
@@ -187,22 +187,22 @@ pub fn is_xmlns_uri(value: &[u8]) -> bool
 //     xmlns:p
 //     |    ^
 //     the reserved prefix, then its end, a colon, or another byte, which declares nothing
-pub fn as_namespace_binding(name: &[u8]) -> Declares
+pub fn as_namespace_binding(name: &[u8]) -> PrefixDeclaration
     ensures { λ r. ⌜ r ≡ declaresOf (now (name .entry)) ⌝ }
 {
     if name.len() < 5 {
-        return Declares::Nothing;
+        return PrefixDeclaration::Nothing;
     }
     if !is_xmlns(&name[..5]) {
-        return Declares::Nothing;
+        return PrefixDeclaration::Nothing;
     }
     if name.len() == 5 {
-        return Declares::Default;
+        return PrefixDeclaration::Default;
     }
     if name[5] == b':' {
-        return Declares::Named;
+        return PrefixDeclaration::Named;
     }
-    Declares::Nothing
+    PrefixDeclaration::Nothing
 }
 
 // The prefix that a name declares, with no bytes where it declares none: what `PrefixDeclaration::Named` holds in
@@ -215,16 +215,16 @@ pub fn declared_prefix(name: &[u8]) -> &[u8]
 {
     let declares = as_namespace_binding(name);
     match declares {
-        Declares::Nothing => &name[..0],
-        Declares::Default => &name[..0],
-        Declares::Named => &name[6..],
+        PrefixDeclaration::Nothing => &name[..0],
+        PrefixDeclaration::Default => &name[..0],
+        PrefixDeclaration::Named => &name[6..],
     }
 }
 
 // What the reserved prefixes and URIs say of a named declaration: the `Named` arms of `NamespaceResolver::add`,
 // src/name.rs, in their order.
 pub fn check_named(prefix: &[u8], value: &[u8]) -> NamedCheck
-    ensures { λ r. ⌜ r ≡ reservedBind (now (prefix .entry)) (now (value .entry)) ⌝ }
+    ensures { λ r. ⌜ namedNumbers r ≡ namedNumbers (reservedBind (now (prefix .entry)) (now (value .entry))) ⌝ }
 {
     if is_xml(prefix) {
         if is_xml_uri(value) {
@@ -273,9 +273,9 @@ pub fn verdict_of(name: &[u8], value: &[u8]) -> Verdict
 {
     let declares = as_namespace_binding(name);
     match declares {
-        Declares::Nothing => return Verdict::NoDeclaration,
-        Declares::Default => return Verdict::Yes,
-        Declares::Named => {}
+        PrefixDeclaration::Nothing => return Verdict::NoDeclaration,
+        PrefixDeclaration::Default => return Verdict::Yes,
+        PrefixDeclaration::Named => {}
     }
     if verdict_named(declared_prefix(name), value) {
         return Verdict::Yes;

@@ -9,17 +9,17 @@ use lib.ListN.{length, take, drop, length-drop}
 use borrow.Author.Tests.{lt-ltb, le-ltb}
 use Rattle.scan.specs.First.{pick}
 use Rattle.scan.proofs.Lists.{to-end}
-use Rattle.replay.specs.declared.Step.{Step}
-use Rattle.replay.specs.declared.Step.the-variants.{Agrees, Differs, Cut}
+use Rattle.replay.specs.declared.RecordStep.{RecordStep}
+use Rattle.replay.specs.declared.RecordStep.the-variants.{Agrees, Differs, Cut}
 use Rattle.replay.specs.declared.Replayed.{Replayed}
-use Rattle.replay.specs.Run.{sizeOf, namesOf, bindingsOf, begunOf, afterOf, Fits, replayFrom, replayOn}
+use Rattle.replay.specs.Run.{stepSize, stepNames, stepBindings, begunOf, afterOf, RunFits, replayFrom, replayOn}
 
 -- A record that agrees has bytes, they are all there, and it counts no more names or bindings than it has bytes.
-pub record Passes (step : Step) (most : ℕ) : Type 0 where
+pub record Passes (step : RecordStep) (most : ℕ) : Type 0 where
   pub some : {size names bindings : ℕ} → step ≡ Agrees size names bindings → 1 ≤ size
-  pub there : sizeOf step ≤ most
-  pub names : namesOf step ≤ sizeOf step
-  pub bindings : bindingsOf step ≤ sizeOf step
+  pub there : stepSize step ≤ most
+  pub names : stepNames step ≤ stepSize step
+  pub bindings : stepBindings step ≤ stepSize step
 
 module _ {most : ℕ} where
   pub passes-agrees : {size names bindings : ℕ} → 1 ≤ size → size ≤ most → names ≤ size → bindings ≤ size → Passes (Agrees size names bindings) most
@@ -31,7 +31,7 @@ module _ {most : ℕ} where
   pub passes-cut : Passes Cut most
   passes-cut = record { some = λ e. (let z : _≡_ {A = ℕ} 0 1 = cc in absurd (omega arith)); there = omega arith; names = omega arith; bindings = omega arith }
 
-  pub passes-pick : (t : Bool) {x y : Step} → (t ≡ true → Passes x most) → (t ≡ false → Passes y most) → Passes (pick t x y) most
+  pub passes-pick : (t : Bool) {x y : RecordStep} → (t ≡ true → Passes x most) → (t ≡ false → Passes y most) → Passes (pick t x y) most
   passes-pick true a b = a refl
   passes-pick false a b = b refl
 
@@ -42,7 +42,7 @@ pub record Bounded (run : Replayed) (len : ℕ) : Type 0 where
   pub bindings : run .bindings ≤ run .at
   pub place : run .at ≤ len
 
-bounded-after : (run : Replayed) (len : ℕ) → Bounded run len → (step : Step) → Passes step (len - run .at) → Bounded (afterOf run step len) len
+bounded-after : (run : Replayed) (len : ℕ) → Bounded run len → (step : RecordStep) → Passes step (len - run .at) → Bounded (afterOf run step len) len
 unfolding afterOf
 bounded-after run len b (Agrees size names bindings) p =
     let o = p .some refl in
@@ -52,7 +52,7 @@ bounded-after run len b Differs p =
 bounded-after run len b Cut p =
     record { records = omega (arith, b .records, b .place); names = omega (arith, b .names, b .place); bindings = omega (arith, b .bindings, b .place); place = omega arith }
 
-nearer : (run : Replayed) (len : ℕ) → run .at < len → (step : Step) → Passes step (len - run .at) → len - afterOf run step len .at < len - run .at
+nearer : (run : Replayed) (len : ℕ) → run .at < len → (step : RecordStep) → Passes step (len - run .at) → len - afterOf run step len .at < len - run .at
 unfolding afterOf
 nearer run len a (Agrees size names bindings) p =
     let o = p .some refl in
@@ -60,14 +60,14 @@ nearer run len a (Agrees size names bindings) p =
 nearer run len a Differs p = omega arith
 nearer run len a Cut p = omega arith
 
-module _ {A : Type 0} (read : A → List ℕ → Step) (leaves : A → List ℕ → A) (s : List ℕ) where
+module _ {A : Type 0} (read : A → List ℕ → RecordStep) (leaves : A → List ℕ → A) (s : List ℕ) where
   ended : (turns : ℕ) (x : A) (run : Replayed) → length s ≤ run .at → replayFrom read leaves turns s x run ≡ run
   unfolding replayFrom
   ended zero x run h = refl
   ended (suc turns) x run h = rw (le-ltb (run .at) (length s) h)
 
   -- the turns that are left are those of the records not yet counted; of a run that has stopped they do not matter
-  turns-after : (run : Replayed) (y : A) (step : Step) → replayFrom read leaves (length s - (run .records + 1)) s y (afterOf run step (length s)) ≡ replayFrom read leaves (length s - afterOf run step (length s) .records) s y (afterOf run step (length s))
+  turns-after : (run : Replayed) (y : A) (step : RecordStep) → replayFrom read leaves (length s - (run .records + 1)) s y (afterOf run step (length s)) ≡ replayFrom read leaves (length s - afterOf run step (length s) .records) s y (afterOf run step (length s))
   unfolding afterOf
   turns-after run y (Agrees size names bindings) = refl
   turns-after run y Differs = ended _ y _ (omega arith) ∙ sym (ended _ y _ (omega arith))
@@ -98,14 +98,14 @@ module _ {A : Type 0} (read : A → List ℕ → Step) (leaves : A → List ℕ 
     stands-last l = sym (h .same ∙ ended _ x run l)
 
     -- what the code read there, and made of it
-    module _ (a : run .at < length s) {q : Step} (e : q ≡ read x (take (length s - run .at) (drop (run .at) s))) (all : (rest : List ℕ) → Passes (read x rest) (length rest)) where
+    module _ (a : run .at < length s) {q : RecordStep} (e : q ≡ read x (take (length s - run .at) (drop (run .at) s))) (all : (rest : List ℕ) → Passes (read x rest) (length rest)) where
       step-is : q ≡ read x (drop (run .at) s)
       step-is = e ∙ ap (read x) (to-end (run .at) s)
 
       passes : Passes q (length s - run .at)
       passes = rw (step-is, sym (length-drop (run .at) s)) (all (drop (run .at) s))
 
-      pub fits : Fits run q (length s)
+      pub fits : RunFits run q (length s)
       fits =
           let b = h .bounded in
           let p = passes in

@@ -5,38 +5,38 @@ use mathlib.Core.List.{List}
 use lib.ListN.{length, drop}
 use lib.Dec.{ltb}
 use Rattle.scan.specs.First.{pick}
-use Rattle.replay.specs.declared.Step.{Step}
-use Rattle.replay.specs.declared.Step.the-variants.{Agrees, Differs, Cut}
-use Rattle.replay.specs.declared.End.{End}
-use Rattle.replay.specs.declared.End.the-variants.{All, Differs as DiffersAt, Cut as CutAt}
+use Rattle.replay.specs.declared.RecordStep.{RecordStep}
+use Rattle.replay.specs.declared.RecordStep.the-variants.{Agrees, Differs, Cut}
+use Rattle.replay.specs.declared.RunEnd.{RunEnd}
+use Rattle.replay.specs.declared.RunEnd.the-variants.{All, Differs as DiffersAt, Cut as CutAt}
 use Rattle.replay.specs.declared.Replayed.{Replayed}
 
 -- the bytes that a step passes, and the names and bindings in it
-abbrev pub sizeOf : Step → ℕ
-sizeOf (Agrees size names bindings) = size
-sizeOf Differs = 0
-sizeOf Cut = 0
+abbrev pub stepSize : RecordStep → ℕ
+stepSize (Agrees size names bindings) = size
+stepSize Differs = 0
+stepSize Cut = 0
 
-abbrev pub namesOf : Step → ℕ
-namesOf (Agrees size names bindings) = names
-namesOf Differs = 0
-namesOf Cut = 0
+abbrev pub stepNames : RecordStep → ℕ
+stepNames (Agrees size names bindings) = names
+stepNames Differs = 0
+stepNames Cut = 0
 
-abbrev pub bindingsOf : Step → ℕ
-bindingsOf (Agrees size names bindings) = bindings
-bindingsOf Differs = 0
-bindingsOf Cut = 0
+abbrev pub stepBindings : RecordStep → ℕ
+stepBindings (Agrees size names bindings) = bindings
+stepBindings Differs = 0
+stepBindings Cut = 0
 
 abbrev pub begunOf : Replayed
 begunOf = record { at = 0; records = 0; names = 0; bindings = 0; end = All }
 
 -- the same counts, and nothing left to read
-abbrev pub stoppedOf : Replayed → (len : ℕ) → End → Replayed
+abbrev pub stoppedOf : Replayed → (len : ℕ) → RunEnd → Replayed
 stoppedOf run len end =
     record { at = len; records = run .records; names = run .names; bindings = run .bindings; end = end }
 
 -- A record that agrees is counted, and the run goes on behind it; any other ends it where it stands.
-unfoldable pub afterOf : Replayed → Step → (len : ℕ) → Replayed
+unfoldable pub afterOf : Replayed → RecordStep → (len : ℕ) → Replayed
 afterOf run (Agrees size names bindings) len =
     record {
       at = run .at + size;
@@ -49,14 +49,14 @@ afterOf run Differs len = stoppedOf run len (DiffersAt (run .at))
 afterOf run Cut len = stoppedOf run len (CutAt (run .at))
 
 -- place and counts stay within the length of all records
-pub record Fits (run : Replayed) (step : Step) (len : ℕ) : Type 0 where
-  pub place : run .at + sizeOf step ≤ len
+pub record RunFits (run : Replayed) (step : RecordStep) (len : ℕ) : Type 0 where
+  pub place : run .at + stepSize step ≤ len
   pub records : run .records + 1 ≤ len
-  pub names : run .names + namesOf step ≤ len
-  pub bindings : run .bindings + bindingsOf step ≤ len
+  pub names : run .names + stepNames step ≤ len
+  pub bindings : run .bindings + stepBindings step ≤ len
 
 -- The run on s. A record has bytes, so that the turns do not run out when they start as the length.
-unfoldable pub replayFrom : {A : Type 0} (read : A → List ℕ → Step) (leaves : A → List ℕ → A) (turns : ℕ) (s : List ℕ) → A → Replayed → Replayed
+unfoldable pub replayFrom : {A : Type 0} (read : A → List ℕ → RecordStep) (leaves : A → List ℕ → A) (turns : ℕ) (s : List ℕ) → A → Replayed → Replayed
 replayFrom read leaves zero s x run = run
 replayFrom read leaves (suc turns) s x run =
     pick (ltb (run .at) (length s))
@@ -64,9 +64,9 @@ replayFrom read leaves (suc turns) s x run =
     run
 
 -- of records that are read with what those before them leave
-unfoldable pub replayOn : {A : Type 0} (read : A → List ℕ → Step) (leaves : A → List ℕ → A) (s : List ℕ) → A → Replayed
+unfoldable pub replayOn : {A : Type 0} (read : A → List ℕ → RecordStep) (leaves : A → List ℕ → A) (s : List ℕ) → A → Replayed
 replayOn read leaves s x = replayFrom read leaves (length s) s x begunOf
 
 -- of records that stand each by itself: what is left is nothing, for which 0 stands
-unfoldable pub replayEach : (read : List ℕ → Step) (s : List ℕ) → Replayed
+unfoldable pub replayEach : (read : List ℕ → RecordStep) (s : List ℕ) → Replayed
 replayEach read s = replayOn {A = ℕ} (λ x rest. read rest) (λ x rest. x) s 0

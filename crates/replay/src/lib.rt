@@ -1,5 +1,5 @@
 // What the programs have in common that hold answers against recorded ones: the numbers of a record, lower byte first, the
-// run through the records, and the lines that say how it went. Each program has its own records, and says by a `Step` what
+// run through the records, and the lines that say how it went. Each program has its own records, and says by a `RecordStep` what
 // it makes of one. The definitions are in specs/Numbers.antt and specs/Run.antt.
 ghost use mathlib.Core.Path.{_≡_};
 ghost use Prim.Native.Nat.{_+_, _*_, _≤_, _<_};
@@ -7,10 +7,10 @@ ghost use lib.Dec.{eqb};
 ghost use lib.ListN.{length};
 ghost use Rattle.scan.specs.Bytes.{sameBytes};
 ghost use Rattle.replay.specs.Numbers.{byteAt, twoAt, twosOf};
-ghost use Rattle.replay.specs.Run.{begunOf, stoppedOf, Fits, afterOf};
+ghost use Rattle.replay.specs.Run.{begunOf, stoppedOf, RunFits, afterOf};
 
 // What stands at the front of some bytes.
-pub enum Step {
+pub enum RecordStep {
     // a whole record of that many bytes, whose answers are ours; then what it adds to two counts, of names and of bindings
     Agrees(usize, usize, usize),
     // one whose answers are not
@@ -20,7 +20,7 @@ pub enum Step {
 }
 
 // Where a run stops.
-pub enum End {
+pub enum RunEnd {
     All,
     Differs(usize),
     Cut(usize),
@@ -32,7 +32,7 @@ pub struct Replayed {
     pub records: usize,
     pub names: usize,
     pub bindings: usize,
-    pub end: End,
+    pub end: RunEnd,
 }
 
 fn byte_wide(b: u8) -> u16
@@ -103,12 +103,12 @@ pub fn begun() -> Replayed
         records: 0,
         names: 0,
         bindings: 0,
-        end: End::All,
+        end: RunEnd::All,
     }
 }
 
 // The same counts, and nothing left to read.
-fn stopped(run: Replayed, len: usize, end: End) -> Replayed
+fn stopped(run: Replayed, len: usize, end: RunEnd) -> Replayed
     ensures { λ r. ⌜ r ≡ stoppedOf run len end ⌝ }
 {
     Replayed {
@@ -121,19 +121,19 @@ fn stopped(run: Replayed, len: usize, end: End) -> Replayed
 }
 
 // The run after one more record of `len` bytes in all.
-pub fn after(run: Replayed, step: Step, len: usize) -> Replayed
-    requires { ⌜ Fits run step len ⌝ }
+pub fn after(run: Replayed, step: RecordStep, len: usize) -> Replayed
+    requires { ⌜ RunFits run step len ⌝ }
     ensures { λ r. ⌜ r ≡ afterOf run step len ⌝ }
 {
     match step {
-        Step::Agrees(size, names, bindings) => Replayed {
+        RecordStep::Agrees(size, names, bindings) => Replayed {
             at: run.at + size,
             records: run.records + 1,
             names: run.names + names,
             bindings: run.bindings + bindings,
-            end: End::All,
+            end: RunEnd::All,
         },
-        Step::Differs => stopped(run, len, End::Differs(run.at)),
-        Step::Cut => stopped(run, len, End::Cut(run.at)),
+        RecordStep::Differs => stopped(run, len, RunEnd::Differs(run.at)),
+        RecordStep::Cut => stopped(run, len, RunEnd::Cut(run.at)),
     }
 }

@@ -11,8 +11,8 @@ use Rattle.name.specs.Reserved.{isXml, isXmlns}
 use Rattle.name.specs.Declares.{declaresOf, declaresNumber, declaredPrefix}
 use Rattle.name.specs.declared.Colon.{Colon}
 use Rattle.name.specs.declared.Colon.the-variants.{At, Nowhere}
-use Rattle.replay.specs.declared.Step.{Step}
-use Rattle.replay.specs.declared.Step.the-variants.{Agrees, Differs, Cut}
+use Rattle.replay.specs.declared.RecordStep.{RecordStep}
+use Rattle.replay.specs.declared.RecordStep.the-variants.{Agrees, Differs, Cut}
 use Rattle.replay.specs.declared.Replayed.{Replayed}
 use Rattle.replay.specs.Numbers.{byteAt, twoAt}
 use Rattle.replay.specs.Run.{replayEach}
@@ -37,8 +37,8 @@ unfoldable pub xmlnsNumber : List ℕ → ℕ
 xmlnsNumber name = pick (isXmlns (prefixOf name)) 1 0
 
 -- the seven recorded bytes are the answers to the name
-unfoldable pub agreesWith : (name recorded : List ℕ) → Bool
-agreesWith name recorded =
+unfoldable pub nameAgrees : (name recorded : List ℕ) → Bool
+nameAgrees name recorded =
     eqb (twoAt recorded 0) (colonNumber name)
     && (eqb (byteAt recorded 2) (declaresNumber (declaresOf name))
     && (eqb (twoAt recorded 3) (startNumber name)
@@ -46,11 +46,11 @@ agreesWith name recorded =
     && eqb (byteAt recorded 6) (xmlnsNumber name))))
 
 -- the record at the front: the name's length in two bytes, the name, seven bytes of answers
-unfoldable pub recordOf : List ℕ → Step
-recordOf rest =
+unfoldable pub nameRecordOf : List ℕ → RecordStep
+nameRecordOf rest =
     pick (ltb (length rest) 9) Cut
     (pick (ltb (length rest - 9) (twoAt rest 0)) Cut
-    (pick (agreesWith (part rest 2 (2 + twoAt rest 0)) (drop (2 + twoAt rest 0) rest)) (Agrees (9 + twoAt rest 0) 0 0) Differs))
+    (pick (nameAgrees (part rest 2 (2 + twoAt rest 0)) (drop (2 + twoAt rest 0) rest)) (Agrees (9 + twoAt rest 0) 0 0) Differs))
 
-unfoldable pub replayOf : List ℕ → Replayed
-replayOf s = replayEach recordOf s
+unfoldable pub namesReplayed : List ℕ → Replayed
+namesReplayed s = replayEach nameRecordOf s

@@ -6,15 +6,15 @@
 //
 // `colon` is the index of the first colon, 65,535 for none; `declares` is 0 for nothing, 1 for the default, 2 for a
 // prefix; then where that prefix starts, 0 for none; then whether the part before the colon is `xml`, and `xmlns`, 0
-// where there is no colon. What is counted is `replayOf`, specs/Replay.antt.
+// where there is no colon. What is counted is `namesReplayed`, specs/Replay.antt.
 use name::Colon;
-use replay::End;
+use replay::RecordStep;
 use replay::Replayed;
-use replay::Step;
+use replay::RunEnd;
 ghost use mathlib.Core.Path.{_≡_};
 ghost use Prim.Native.Nat.{_≤_};
 ghost use lib.ListN.{length};
-ghost use Rattle.replay_names.specs.Replay.{colonNumber, startNumber, xmlNumber, xmlnsNumber, agreesWith, recordOf, replayOf};
+ghost use Rattle.replay_names.specs.Replay.{colonNumber, startNumber, xmlNumber, xmlnsNumber, nameAgrees, nameRecordOf, namesReplayed};
 
 fn colon_number(name: &[u8]) -> usize
     ensures { λ r. ⌜ r ≡ colonNumber (now (name .entry)) ⌝ }
@@ -58,7 +58,7 @@ fn xmlns_number(name: &[u8]) -> usize
 // Whether the answers to a name are the recorded ones, which stand at the front of `recorded`.
 fn agrees(name: &[u8], recorded: &[u8]) -> bool
     requires { ⌜ 7 ≤ length (now recorded) ⌝ }
-    ensures { λ r. ⌜ r ≡ agreesWith (now (name .entry)) (now (recorded .entry)) ⌝ }
+    ensures { λ r. ⌜ r ≡ nameAgrees (now (name .entry)) (now (recorded .entry)) ⌝ }
 {
     if !replay::is_two(recorded, 0, colon_number(name)) {
         return false;
@@ -75,26 +75,26 @@ fn agrees(name: &[u8], recorded: &[u8]) -> bool
     replay::is_byte(recorded, 6, xmlns_number(name))
 }
 
-fn record_of(rest: &[u8]) -> Step
-    ensures { λ r. ⌜ r ≡ recordOf (now (rest .entry)) ⌝ }
+fn record_of(rest: &[u8]) -> RecordStep
+    ensures { λ r. ⌜ r ≡ nameRecordOf (now (rest .entry)) ⌝ }
 {
     if rest.len() < 9 {
-        return Step::Cut;
+        return RecordStep::Cut;
     }
     let n = replay::number_at(rest, 0);
     if rest.len() - 9 < n {
-        return Step::Cut;
+        return RecordStep::Cut;
     }
     let to = 2 + n;
     if agrees(&rest[2..to], &rest[to..]) {
-        return Step::Agrees(9 + n, 0, 0);
+        return RecordStep::Agrees(9 + n, 0, 0);
     }
-    Step::Differs
+    RecordStep::Differs
 }
 
 // How many records agree before the first that does not, and where that one is.
 fn replay(records: &[u8]) -> Replayed
-    ensures { λ r. ⌜ r ≡ replayOf (now (records .entry)) ⌝ }
+    ensures { λ r. ⌜ r ≡ namesReplayed (now (records .entry)) ⌝ }
 {
     let mut run = replay::begun();
     while run.at < records.len() {
@@ -119,18 +119,18 @@ fn say(words: &[u8], n: usize) {
 }
 
 // The end of a line of counts: all agreed, or where the run stopped. `which` says what a record is.
-fn say_end(end: End, which: &[u8]) {
+fn say_end(end: RunEnd, which: &[u8]) {
     match end {
-        End::All => {
+        RunEnd::All => {
             io::write_all(1, b", all as recorded\n");
         }
-        End::Differs(at) => {
+        RunEnd::Differs(at) => {
             io::write_all(1, b" as recorded, and ");
             io::write_all(1, which);
             say(b" that is not at byte ", at);
             io::write_all(1, b"\n");
         }
-        End::Cut(at) => {
+        RunEnd::Cut(at) => {
             say(b" as recorded, and no whole record at byte ", at);
             io::write_all(1, b"\n");
         }

@@ -15,19 +15,19 @@ use Rattle.replay.proofs.Turns.{Passes, passes-agrees, passes-differs, passes-c
 use Rattle.scope_table.specs.declared.NamespaceResolver.{NamespaceResolver}
 use Rattle.scope_listing.specs.declared.Listed.{Listed}
 use Rattle.scope_listing.specs.declared.Listed.the-variants as Shown
-use Rattle.replay_scopes.specs.declared.Call.{Call}
-use Rattle.replay_scopes.specs.declared.Call.the-variants.{Fresh, AddDefault, AddNamed, Push, Pop, SetLevel, SetLimit, ResolveAttribute, ResolveElement, Bindings, BindingsOf}
+use Rattle.replay_scopes.specs.declared.RecordedCall.{RecordedCall}
+use Rattle.replay_scopes.specs.declared.RecordedCall.the-variants.{Fresh, AddDefault, AddNamed, Push, Pop, SetLevel, SetLimit, ResolveAttribute, ResolveElement, Bindings, BindingsOf}
 use Rattle.replay_scopes.specs.declared.Lengths.{Lengths}
 use Rattle.replay_scopes.specs.declared.Lengths.the-variants.{Whole, Cut}
-use Rattle.replay_scopes.specs.Calls.{callOf, shownIn, changedBy, resetTo, lookedUp, listedAs, madeOf}
-use Rattle.replay_scopes.specs.Replay.{sameSaid, sameLeft, lengthsOf, heldTo, turnOf, turnAt, recordOf}
+use Rattle.replay_scopes.specs.Calls.{recordedCallOf, shownIn, changedBy, resetTo, calledLookup, calledListing, calledOf}
+use Rattle.replay_scopes.specs.Replay.{sameSaid, sameLeft, lengthsOf, heldTo, turnOf, turnAt, callRecordOf}
 
 -- what is at least k and not k, and what is none of the first ten calls
 pub next : (k n : ℕ) → k ≤ n → (n ≡ k → ⊥) → k + 1 ≤ n
 next k n h other = omega arith
 
-pub last-call : (number : ℕ) → 10 ≤ number → BindingsOf ≡ callOf number
-unfolding callOf
+pub last-call : (number : ℕ) → 10 ≤ number → BindingsOf ≡ recordedCallOf number
+unfolding recordedCallOf
 last-call number h = sym (List·getD-eq-default (Fresh ∷ AddDefault ∷ AddNamed ∷ Push ∷ Pop ∷ SetLevel ∷ SetLimit ∷ ResolveAttribute ∷ ResolveElement ∷ Bindings ∷ []) BindingsOf h)
 
 -- the lengths of the record at the front
@@ -86,8 +86,8 @@ one-shown Shown.End = omega arith
 one-shown Shown.BadResolver = omega arith
 one-shown Shown.WrongLength = omega arith
 
-counts : (x : NamespaceResolver) (call : Call) (a b : ℕ) (s t : List ℕ) → (madeOf x call a b s t .names ≤ 1) × (madeOf x call a b s t .bindings ≤ 1)
-unfolding madeOf changedBy resetTo lookedUp listedAs
+counts : (x : NamespaceResolver) (call : RecordedCall) (a b : ℕ) (s t : List ℕ) → (calledOf x call a b s t .names ≤ 1) × (calledOf x call a b s t .bindings ≤ 1)
+unfolding calledOf changedBy resetTo calledLookup calledListing
 counts x Fresh a b s t = (omega arith, omega arith)
 counts x AddDefault a b s t = (omega arith, omega arith)
 counts x AddNamed a b s t = (omega arith, omega arith)
@@ -105,14 +105,14 @@ turn-passes : (x : NamespaceResolver) (rest : List ℕ) (l : Lengths) → length
 unfolding turnAt turnOf heldTo
 turn-passes x rest (Whole k l) e =
     let f = whole-fits rest e in
-    let call = callOf (getD rest 0 0) in
+    let call = recordedCallOf (getD rest 0 0) in
     let s = part rest 7 (7 + k) in
     let t = part rest (9 + k) (9 + k + l) in
     let c = counts x call (twoAt rest 1) (twoAt rest 3) s t in
-    let made = madeOf x call (twoAt rest 1) (twoAt rest 3) s t in
-    passes-pick (sameSaid (made .said) (drop (9 + k + l) rest) && sameLeft (made .resolver .head .used) (made .resolver .head .count) (made .resolver .head .level) (drop (9 + k + l) rest)) (λ y. passes-agrees (omega arith) (omega arith) (omega arith) (omega arith)) (λ y. passes-differs)
+    let calledWith = calledOf x call (twoAt rest 1) (twoAt rest 3) s t in
+    passes-pick (sameSaid (calledWith .said) (drop (9 + k + l) rest) && sameLeft (calledWith .resolver .head .used) (calledWith .resolver .head .count) (calledWith .resolver .head .level) (drop (9 + k + l) rest)) (λ y. passes-agrees (omega arith) (omega arith) (omega arith) (omega arith)) (λ y. passes-differs)
 turn-passes x rest Cut e = passes-cut
 
-pub passes : (x : NamespaceResolver) (rest : List ℕ) → Passes (recordOf x rest .step) (length rest)
-unfolding recordOf
+pub passes : (x : NamespaceResolver) (rest : List ℕ) → Passes (callRecordOf x rest .step) (length rest)
+unfolding callRecordOf
 passes x rest = turn-passes x rest (lengthsOf rest) refl

@@ -6,16 +6,16 @@ use lib.ListN.{length, drop, getD}
 use lib.Dec.{eqb, ltb}
 use Rattle.scan.specs.First.{pick}
 use Rattle.scan.specs.Bytes.{part}
-use Rattle.replay.specs.declared.Step.{Step}
-use Rattle.replay.specs.declared.Step.the-variants as At
+use Rattle.replay.specs.declared.RecordStep.{RecordStep}
+use Rattle.replay.specs.declared.RecordStep.the-variants as At
 use Rattle.replay.specs.declared.Replayed.{Replayed}
 use Rattle.replay.specs.Numbers.{twoAt}
 use Rattle.replay.specs.Run.{replayOn}
 use Rattle.scope_table.specs.Table.{freshOf}
 use Rattle.scope_table.specs.declared.NamespaceResolver.{NamespaceResolver}
-use Rattle.replay_scopes.specs.Calls.{callOf, madeOf}
+use Rattle.replay_scopes.specs.Calls.{recordedCallOf, calledOf}
 use Rattle.replay_scopes.specs.declared.Said.{Said}
-use Rattle.replay_scopes.specs.declared.Made.{Made}
+use Rattle.replay_scopes.specs.declared.Called.{Called}
 use Rattle.replay_scopes.specs.declared.Lengths.{Lengths}
 use Rattle.replay_scopes.specs.declared.Lengths.the-variants.{Whole, Cut}
 use Rattle.replay_scopes.specs.declared.Turn.{Turn}
@@ -44,11 +44,11 @@ lengthsOf rest =
     (pick (ltb (length rest - 27 - twoAt rest 5) (twoAt rest (7 + twoAt rest 5))) Cut
     (Whole (twoAt rest 5) (twoAt rest (7 + twoAt rest 5))))))
 
-abbrev pub turn : Step → NamespaceResolver → Turn
+abbrev pub turn : RecordStep → NamespaceResolver → Turn
 turn s x = record { step = s; resolver = x }
 
 -- what a call made, held against what is recorded of it
-unfoldable pub heldTo : Made → (size : ℕ) → (recorded : List ℕ) → Turn
+unfoldable pub heldTo : Called → (size : ℕ) → (recorded : List ℕ) → Turn
 heldTo m size recorded =
     turn
     (pick (sameSaid (m .said) recorded
@@ -60,7 +60,7 @@ heldTo m size recorded =
 unfoldable pub turnOf : NamespaceResolver → (rest : List ℕ) → (n m : ℕ) → Turn
 turnOf x rest n m =
     heldTo
-    (madeOf x (callOf (getD rest 0 0)) (twoAt rest 1) (twoAt rest 3) (part rest 7 (7 + n))
+    (calledOf x (recordedCallOf (getD rest 0 0)) (twoAt rest 1) (twoAt rest 3) (part rest 7 (7 + n))
     (part rest (9 + n) (9 + n + m)))
     (18 + (9 + n + m)) (drop (9 + n + m) rest)
 
@@ -69,9 +69,9 @@ turnAt (Whole n m) x rest = turnOf x rest n m
 turnAt Cut x rest = turn At.Cut x
 
 -- the record at the front
-unfoldable pub recordOf : NamespaceResolver → (rest : List ℕ) → Turn
-recordOf x rest = turnAt (lengthsOf rest) x rest
+unfoldable pub callRecordOf : NamespaceResolver → (rest : List ℕ) → Turn
+callRecordOf x rest = turnAt (lengthsOf rest) x rest
 
 -- Each call acts on what the one before it has left.
-unfoldable pub replayOf : List ℕ → Replayed
-replayOf s = replayOn (λ x rest. recordOf x rest .step) (λ x rest. recordOf x rest .resolver) s freshOf
+unfoldable pub callsReplayed : List ℕ → Replayed
+callsReplayed s = replayOn (λ x rest. callRecordOf x rest .step) (λ x rest. callRecordOf x rest .resolver) s freshOf

@@ -4,14 +4,14 @@
 //     call   numbers   length   first ..   length   second ..   code   values   used   count   level
 //     1      2, 2      2        length     2        length      2      10       2      2       2
 //
-// The calls are those of `Call`, in its order, and each acts on what the calls before it have left. `code` and five
+// The calls are those of `RecordedCall`, in its order, and each acts on what the calls before it have left. `code` and five
 // values are the answer; then how many bytes of text and how many records are in use, and at which level. The resolver
-// goes from call to call by value, so that each contract is one equation on all of it. What is counted is `replayOf`,
-// specs/Replay.antt.
-use name::Declares;
-use replay::End;
+// goes from call to call by value, so that each contract is one equation on all of it. The calls are made twice: each by
+// value, and each on a resolver in a local that is lent to it. What is counted is `callsReplayed`, specs/Replay.antt.
+use name::PrefixDeclaration;
+use replay::RecordStep;
 use replay::Replayed;
-use replay::Step;
+use replay::RunEnd;
 use scope_listing::Listed;
 use scope_listing::Listing;
 use scope_lookup::Resolved;
@@ -21,11 +21,11 @@ use scope_table::NamespaceResult;
 ghost use mathlib.Core.Path.{_≡_};
 ghost use Prim.Native.Nat.{_+_, _≤_};
 ghost use lib.ListN.{length};
-ghost use Rattle.replay_scopes.specs.Calls.{said, changeSaid, lookupSaid, placeAfter, listingSaid, shownIn, changedBy, resetTo, lookedUp, listedAs, callOf, madeOf};
-ghost use Rattle.replay_scopes.specs.Replay.{sameSaid, sameLeft, lengthsOf, heldTo, turnOf, recordOf, replayOf};
+ghost use Rattle.replay_scopes.specs.Calls.{saidNumbers, changeSaid, lookupSaid, placeAfter, listingSaid, shownIn, changedBy, resetTo, calledLookup, calledListing, recordedCallOf, calledOf};
+ghost use Rattle.replay_scopes.specs.Replay.{sameSaid, sameLeft, lengthsOf, heldTo, turnOf, callRecordOf, callsReplayed};
 
 // A recorded call, with what its numbers and texts are.
-enum Call {
+enum RecordedCall {
     Fresh,
     // second text: the value
     AddDefault,
@@ -59,7 +59,7 @@ struct Said {
 }
 
 // What a call answers, how many names it resolves and how many bindings it shows, and the resolver that it leaves.
-struct Made {
+struct Called {
     said: Said,
     names: usize,
     bindings: usize,
@@ -74,31 +74,31 @@ enum Lengths {
 
 // What stands at the front of some bytes, and the resolver after it.
 struct Turn {
-    step: Step,
+    step: RecordStep,
     resolver: NamespaceResolver,
 }
 
-fn call_of(number: u8) -> Call
-    ensures { λ r. ⌜ r ≡ callOf number ⌝ }
+fn call_of(number: u8) -> RecordedCall
+    ensures { λ r. ⌜ r ≡ recordedCallOf number ⌝ }
 {
     match number {
-        0 => Call::Fresh,
-        1 => Call::AddDefault,
-        2 => Call::AddNamed,
-        3 => Call::Push,
-        4 => Call::Pop,
-        5 => Call::SetLevel,
-        6 => Call::SetLimit,
-        7 => Call::ResolveAttribute,
-        8 => Call::ResolveElement,
-        9 => Call::Bindings,
-        _ => Call::BindingsOf,
+        0 => RecordedCall::Fresh,
+        1 => RecordedCall::AddDefault,
+        2 => RecordedCall::AddNamed,
+        3 => RecordedCall::Push,
+        4 => RecordedCall::Pop,
+        5 => RecordedCall::SetLevel,
+        6 => RecordedCall::SetLimit,
+        7 => RecordedCall::ResolveAttribute,
+        8 => RecordedCall::ResolveElement,
+        9 => RecordedCall::Bindings,
+        _ => RecordedCall::BindingsOf,
     }
 }
 
 // An answer of at most two values.
 fn says(code: usize, first: usize, second: usize) -> Said
-    ensures { λ r. ⌜ r ≡ said code first second ⌝ }
+    ensures { λ r. ⌜ r ≡ saidNumbers code first second ⌝ }
 {
     Said {
         code: code,
@@ -167,12 +167,12 @@ fn shown_in(answer: Listed) -> usize
 }
 
 // A changing call that may refuse.
-fn changed_by(c: Changed) -> Made
+fn changed_by(c: Changed) -> Called
     ensures { λ m. ⌜ m ≡ changedBy c ⌝ }
 {
     let answer = c.answer;
     let left = c.resolver;
-    Made {
+    Called {
         said: change_said(answer),
         names: 0,
         bindings: 0,
@@ -181,10 +181,10 @@ fn changed_by(c: Changed) -> Made
 }
 
 // One that never does: a fresh resolver, or another limit.
-fn reset_to(r: NamespaceResolver) -> Made
+fn reset_to(r: NamespaceResolver) -> Called
     ensures { λ m. ⌜ m ≡ resetTo r ⌝ }
 {
-    Made {
+    Called {
         said: says(0, 0, 0),
         names: 0,
         bindings: 0,
@@ -193,10 +193,10 @@ fn reset_to(r: NamespaceResolver) -> Made
 }
 
 // A question, which leaves the resolver as it was.
-fn looked_up(r: NamespaceResolver, found: Resolved) -> Made
-    ensures { λ m. ⌜ m ≡ lookedUp r found ⌝ }
+fn looked_up(r: NamespaceResolver, found: Resolved) -> Called
+    ensures { λ m. ⌜ m ≡ calledLookup r found ⌝ }
 {
-    Made {
+    Called {
         said: lookup_said(found),
         names: 1,
         bindings: 0,
@@ -204,11 +204,11 @@ fn looked_up(r: NamespaceResolver, found: Resolved) -> Made
     }
 }
 
-fn listed_as(r: NamespaceResolver, listing: Listing) -> Made
-    ensures { λ m. ⌜ m ≡ listedAs r listing ⌝ }
+fn listed_as(r: NamespaceResolver, listing: Listing) -> Called
+    ensures { λ m. ⌜ m ≡ calledListing r listing ⌝ }
 {
     let answer = listing.answer;
-    Made {
+    Called {
         said: listing_said(answer, listing.place),
         names: 0,
         bindings: shown_in(answer),
@@ -219,27 +219,98 @@ fn listed_as(r: NamespaceResolver, listing: Listing) -> Made
 // A call is made, with its numbers and texts.
 fn make<'a>(
     r: NamespaceResolver,
-    call: Call,
+    call: RecordedCall,
     a: u16,
     b: u16,
     first: &'a [u8],
     second: &'a [u8],
-) -> Made
-    ensures { λ m. ⌜ m ≡ madeOf r call a b (now (first .entry)) (now (second .entry)) ⌝ }
+) -> Called
+    ensures { λ m. ⌜ m ≡ calledOf r call a b (now (first .entry)) (now (second .entry)) ⌝ }
 {
     match call {
-        Call::Fresh => reset_to(NamespaceResolver::fresh()),
-        Call::AddDefault => changed_by(scope_declare::add(r, Declares::Default, first, second)),
-        Call::AddNamed => changed_by(scope_declare::add(r, Declares::Named, first, second)),
-        Call::Push => changed_by(scope_push::push(r, first, replay::wide(a))),
-        Call::Pop => changed_by(scope_declare::pop(r)),
-        Call::SetLevel => changed_by(scope_declare::set_level(r, a)),
-        Call::SetLimit => reset_to(scope_declare::set_max_namespace_bindings(r, replay::wide(a))),
-        Call::ResolveAttribute => looked_up(r, scope_lookup::resolve_attribute(r, first)),
-        Call::ResolveElement => looked_up(r, scope_lookup::resolve_element(r, first)),
-        Call::Bindings => listed_as(r, scope_listing::bindings(r, replay::wide(a))),
-        Call::BindingsOf => listed_as(r, scope_listing::bindings_of(r, b, replay::wide(a))),
+        RecordedCall::Fresh => reset_to(NamespaceResolver::fresh()),
+        RecordedCall::AddDefault => changed_by(scope_declare::add(
+            r,
+            PrefixDeclaration::Default,
+            first,
+            second,
+        )),
+        RecordedCall::AddNamed => changed_by(scope_declare::add(
+            r,
+            PrefixDeclaration::Named,
+            first,
+            second,
+        )),
+        RecordedCall::Push => changed_by(scope_push::push(r, first, replay::wide(a))),
+        RecordedCall::Pop => changed_by(scope_declare::pop(r)),
+        RecordedCall::SetLevel => changed_by(scope_declare::set_level(r, a)),
+        RecordedCall::SetLimit => reset_to(scope_declare::set_max_namespace_bindings(
+            r,
+            replay::wide(a),
+        )),
+        RecordedCall::ResolveAttribute => looked_up(r, scope_lookup::resolve_attribute(r, first)),
+        RecordedCall::ResolveElement => looked_up(r, scope_lookup::resolve_element(r, first)),
+        RecordedCall::Bindings => listed_as(r, scope_listing::bindings(r, replay::wide(a))),
+        RecordedCall::BindingsOf => listed_as(r, scope_listing::bindings_of(r, b, replay::wide(a))),
     }
+}
+
+// The same calls in the other form: those that change a resolver on one that is lent to them, names by the call that is
+// told whether a default is wanted, and listings by the iterators that carry the resolver.
+fn make_own<'a>(
+    r: NamespaceResolver,
+    call: RecordedCall,
+    a: u16,
+    b: u16,
+    first: &'a [u8],
+    second: &'a [u8],
+) -> Called
+    ensures { λ m. ⌜ m ≡ calledOf r call a b (now (first .entry)) (now (second .entry)) ⌝ }
+{
+    match call {
+        RecordedCall::Fresh => reset_to(NamespaceResolver::fresh()),
+        RecordedCall::AddDefault => changed_by(replay_forms::add(
+            r,
+            PrefixDeclaration::Default,
+            first,
+            second,
+        )),
+        RecordedCall::AddNamed => changed_by(replay_forms::add(
+            r,
+            PrefixDeclaration::Named,
+            first,
+            second,
+        )),
+        RecordedCall::Push => changed_by(replay_forms::push(r, first, replay::wide(a))),
+        RecordedCall::Pop => changed_by(replay_forms::pop(r)),
+        RecordedCall::SetLevel => changed_by(replay_forms::set_level(r, a)),
+        RecordedCall::SetLimit => reset_to(replay_forms::set_max_namespace_bindings(
+            r,
+            replay::wide(a),
+        )),
+        RecordedCall::ResolveAttribute => looked_up(r, scope_lookup::resolve(r, first, false)),
+        RecordedCall::ResolveElement => looked_up(r, scope_lookup::resolve(r, first, true)),
+        RecordedCall::Bindings => listed_as(r, replay_forms::bindings(r, replay::wide(a))),
+        RecordedCall::BindingsOf => listed_as(r, replay_forms::bindings_of(r, b, replay::wide(a))),
+    }
+}
+
+// In the one form or the other.
+fn make_by<'a>(
+    own: bool,
+    r: NamespaceResolver,
+    call: RecordedCall,
+    a: u16,
+    b: u16,
+    first: &'a [u8],
+    second: &'a [u8],
+) -> Called
+    ensures { λ m. ⌜ m ≡ calledOf r call a b (now (first .entry)) (now (second .entry)) ⌝ }
+{
+    if own {
+        return make_own(r, call, a, b, first, second);
+    }
+    make(r, call, a, b, first, second)
 }
 
 // Whether an answer is the one that is recorded at the front of some bytes.
@@ -280,7 +351,7 @@ fn same_left(used: usize, count: usize, level: usize, recorded: &[u8]) -> bool
 }
 
 // What a call of a record of so many bytes made is held against what is recorded.
-fn held_to(made: Made, size: usize, recorded: &[u8]) -> Turn
+fn held_to(made: Called, size: usize, recorded: &[u8]) -> Turn
     requires { ⌜ 18 ≤ length (now recorded) ⌝ }
     ensures { λ r. ⌜ r ≡ heldTo made size (now (recorded .entry)) ⌝ }
 {
@@ -289,18 +360,18 @@ fn held_to(made: Made, size: usize, recorded: &[u8]) -> Turn
     let head = left.head;
     if !same_said(answer, recorded) {
         return Turn {
-            step: Step::Differs,
+            step: RecordStep::Differs,
             resolver: left,
         };
     }
     if !same_left(head.used, head.count, head.level, recorded) {
         return Turn {
-            step: Step::Differs,
+            step: RecordStep::Differs,
             resolver: left,
         };
     }
     Turn {
-        step: Step::Agrees(size, made.names, made.bindings),
+        step: RecordStep::Agrees(size, made.names, made.bindings),
         resolver: left,
     }
 }
@@ -326,14 +397,15 @@ fn lengths_of(rest: &[u8]) -> Lengths
 }
 
 // The call of a whole record, whose texts have n and m bytes.
-fn turn_of(r: NamespaceResolver, rest: &[u8], n: usize, m: usize) -> Turn
+fn turn_of(own: bool, r: NamespaceResolver, rest: &[u8], n: usize, m: usize) -> Turn
     requires { ⌜ 27 + n + m ≤ length (now rest) ⌝ }
     ensures { λ t. ⌜ t ≡ turnOf r (now (rest .entry)) n m ⌝ }
 {
     let to = 7 + n;
     let from = 9 + n;
     let end = from + m;
-    let made = make(
+    let made = make_by(
+        own,
         r,
         call_of(rest[0]),
         replay::two_at(rest, 1),
@@ -344,28 +416,28 @@ fn turn_of(r: NamespaceResolver, rest: &[u8], n: usize, m: usize) -> Turn
     held_to(made, 18 + end, &rest[end..])
 }
 
-fn record_of(r: NamespaceResolver, rest: &[u8]) -> Turn
-    ensures { λ t. ⌜ t ≡ recordOf r (now (rest .entry)) ⌝ }
+fn record_of(own: bool, r: NamespaceResolver, rest: &[u8]) -> Turn
+    ensures { λ t. ⌜ t ≡ callRecordOf r (now (rest .entry)) ⌝ }
 {
     let lengths = lengths_of(rest);
     match lengths {
-        Lengths::Whole(n, m) => turn_of(r, rest, n, m),
+        Lengths::Whole(n, m) => turn_of(own, r, rest, n, m),
         Lengths::Cut => Turn {
-            step: Step::Cut,
+            step: RecordStep::Cut,
             resolver: r,
         },
     }
 }
 
 // How many records agree before the first that does not, and where that one is. A fresh resolver is there from the start.
-fn replay(records: &[u8]) -> Replayed
-    ensures { λ r. ⌜ r ≡ replayOf (now (records .entry)) ⌝ }
+fn replay(records: &[u8], own: bool) -> Replayed
+    ensures { λ r. ⌜ r ≡ callsReplayed (now (records .entry)) ⌝ }
 {
     let mut resolver = NamespaceResolver::fresh();
     let mut run = replay::begun();
     while run.at < records.len() {
         let at = run.at;
-        let turn = record_of(resolver, &records[at..]);
+        let turn = record_of(own, resolver, &records[at..]);
         let left = turn.resolver;
         let step = turn.step;
         resolver = left;
@@ -388,18 +460,18 @@ fn say(words: &[u8], n: usize) {
 }
 
 // The end of a line of counts: all agreed, or where the run stopped. `which` says what a record is.
-fn say_end(end: End, which: &[u8]) {
+fn say_end(end: RunEnd, which: &[u8]) {
     match end {
-        End::All => {
+        RunEnd::All => {
             io::write_all(1, b", all as recorded\n");
         }
-        End::Differs(at) => {
+        RunEnd::Differs(at) => {
             io::write_all(1, b" as recorded, and ");
             io::write_all(1, which);
             say(b" that is not at byte ", at);
             io::write_all(1, b"\n");
         }
-        End::Cut(at) => {
+        RunEnd::Cut(at) => {
             say(b" as recorded, and no whole record at byte ", at);
             io::write_all(1, b"\n");
         }
@@ -430,5 +502,6 @@ fn main() {
     if too_long() {
         return;
     }
-    show(replay(&buffer[..n]));
+    show(replay(&buffer[..n], false));
+    show(replay(&buffer[..n], true));
 }

@@ -1,6 +1,7 @@
 // The iterator's rows of document 01, "Bytes to hold against the rules", read with checks on. What it writes is held against
 // `stdout`, which was written from the document. A row: the mode (`x` XML, `h` HTML), the opening position, the tag between
 // bars; then its answers, a line each (crates/lines), and `end`.
+use lines::Mode;
 use tag_keys::CAPACITY;
 use tag_step::Place;
 
@@ -17,8 +18,10 @@ fn row_on<'a>(
         tag,
         starts,
         ends,
-        html,
-        true,
+        Mode {
+            html: html,
+            checks: true,
+        },
         0,
         Place::Next(open),
         numbers,

@@ -11,12 +11,12 @@ use lib.Dec.{eqb, leb, ltb}
 use lib.ListN.{length, take, drop, length-append}
 use borrow.Author.Tests.{leb-false, ltb-false, ne-eqb, le-leb, lt-leb, lt-ltb, le-ltb}
 use Rattle.scan.specs.First.{pick}
-use Rattle.scan.specs.Lists.{over}
+use Rattle.scan.specs.Lists.{over, padTo}
 use Rattle.scope_table.specs.Lists.{cut}
 use Rattle.scope_table.specs.Records.{rowAt, recordAt, bindingOf, rowOf}
 use Rattle.scope_table.specs.Table.{TEXT, RECORDS, NUMBERS, headOf, resolverOf, textOf, validOf}
 use Rattle.scope_table.specs.Answer.{isDone, changed}
-use Rattle.scope_table.specs.Lent.{padTo, standsFor, holdsOf, fitsOf, given, lentOf, formOf}
+use Rattle.scope_table.specs.Lent.{standsFor, holdsOf, fitsOf, given, lentOf, formOf}
 use Rattle.scope_table.specs.declared.Head.{Head}
 use Rattle.scope_table.specs.declared.NamespaceBinding.{NamespaceBinding}
 use Rattle.scope_table.specs.declared.NamespaceResolver.{NamespaceResolver}

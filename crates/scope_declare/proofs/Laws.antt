@@ -11,8 +11,8 @@ use Rattle.scan.specs.First.{pick}
 use Rattle.scan.proofs.Laws.{picks}
 use Rattle.scan.proofs.Lists.{over-length}
 use Rattle.name.specs.Bind.{reservedBind}
-use Rattle.name.specs.declared.Declares.{Declares}
-use Rattle.name.specs.declared.Declares.the-variants.{Nothing, Default, Named}
+use Rattle.name.specs.declared.PrefixDeclaration.{PrefixDeclaration}
+use Rattle.name.specs.declared.PrefixDeclaration.the-variants.{Nothing, Default, Named}
 use Rattle.name.specs.declared.NamedCheck.{NamedCheck}
 use Rattle.name.specs.declared.NamedCheck.the-variants as Check
 use Rattle.scope_table.specs.Records.{rowAt, rowOf, bindingOf}
@@ -52,14 +52,14 @@ named-fits Check.InvalidXmlnsPrefixBind p at = omega arith
 named-fits Check.InvalidPrefixForXml p at = omega arith
 named-fits Check.InvalidPrefixForXmlns p at = omega arith
 
-size-fits : (d : Declares) (p v : List ℕ) (at : Places) → size (judgeOf d p v at) ≤ length p
+size-fits : (d : PrefixDeclaration) (p v : List ℕ) (at : Places) → size (judgeOf d p v at) ≤ length p
 unfolding judgeOf
 size-fits Nothing p v at = omega arith
 size-fits Default p v at = omega arith
 size-fits Named p v at = named-fits (reservedBind p v) p at
 
 -- what is to be bound is no longer than the prefix that was given
-pub bind-fits : (d : Declares) (p v : List ℕ) (at : Places) (n : ℕ) → judgeOf d p v at ≡ Bind n → n ≤ length p
+pub bind-fits : (d : PrefixDeclaration) (p v : List ℕ) (at : Places) (n : ℕ) → judgeOf d p v at ≡ Bind n → n ≤ length p
 bind-fits d p v at n e =
     let s = size-fits d p v at in
     let q : size (judgeOf d p v at) ≡ n = ap size e in
@@ -94,7 +94,7 @@ named-never Check.InvalidXmlnsPrefixBind p at = refl
 named-never Check.InvalidPrefixForXml p at = refl
 named-never Check.InvalidPrefixForXmlns p at = refl
 
-judge-never : (d : Declares) (p v : List ℕ) (at : Places) → keepsMore (judgeOf d p v at) ≡ false
+judge-never : (d : PrefixDeclaration) (p v : List ℕ) (at : Places) → keepsMore (judgeOf d p v at) ≡ false
 unfolding judgeOf
 judge-never Nothing p v at = refl
 judge-never Default p v at = refl
@@ -128,7 +128,7 @@ module _ (room : Room) (x : NamespaceResolver) (P : Changed → Type 0)
   settle-ways (Keep a) p v e = keeps a e
   settle-ways (Bind n) p v e = append-ways (take n p) v (isDone (refusalOf room (x .head) (length (take n p) + length v))) refl
 
-  pub declare-ways : (d : Declares) (p v : List ℕ) (at : Places) → P (declareOf room d p v at x)
+  pub declare-ways : (d : PrefixDeclaration) (p v : List ℕ) (at : Places) → P (declareOf room d p v at x)
   unfolding declareOf
   declare-ways d p v at = settle-ways (judgeOf d p v at) p v (judge-never d p v at)
 
@@ -138,7 +138,7 @@ pub record FullSize (x : NamespaceResolver) : Type 0 where
   pub text : length (x .text) ≡ TEXT
   pub records : length (x .records) ≡ NUMBERS
 
-pub declare-sized : (room : Room) (d : Declares) (p v : List ℕ) (at : Places) (x : NamespaceResolver) → room .records ≤ RECORDS → room .bytes ≤ TEXT → FullSize x → FullSize (declareOf room d p v at x .resolver)
+pub declare-sized : (room : Room) (d : PrefixDeclaration) (p v : List ℕ) (at : Places) (x : NamespaceResolver) → room .records ≤ RECORDS → room .bytes ≤ TEXT → FullSize x → FullSize (declareOf room d p v at x .resolver)
 unfolding boundOf
 declare-sized room d p v at x few small s =
     let new : (p v : List ℕ) → NamespaceBinding = λ p v. bindingOf (x .head .used) (length p) (length v) (x .head .level) in
@@ -149,7 +149,7 @@ declare-sized room d p v at x few small s =
     })
     d p v at
 
-pub add-sized : (d : Declares) (p v : List ℕ) (x : NamespaceResolver) → FullSize x → FullSize (addOf d p v x .resolver)
+pub add-sized : (d : PrefixDeclaration) (p v : List ℕ) (x : NamespaceResolver) → FullSize x → FullSize (addOf d p v x .resolver)
 unfolding addOf
 add-sized d p v x s =
     picks (λ (c : Changed). FullSize (c .resolver)) (validOf x)
@@ -178,7 +178,7 @@ by-value f x s z a text records head e =
     (e ∙ full-is (x .text) (x .records) (x .head) (s .text) (s .records) f (z .text) (z .records))
 
 -- On lent memory.
-module _ (room : Room) (d : Declares) (p v : List ℕ) (at : Places) (text records : List ℕ) (head : Head) where
+module _ (room : Room) (d : PrefixDeclaration) (p v : List ℕ) (at : Places) (text records : List ℕ) (head : Head) where
   -- what leaves the resolver leaves the memory
   pub declare-keeps : (a : NamespaceResult) → fitsOf (length text) (length records) (head .used) (head .count) ≡ true → judgeOf d p v at ≡ Keep a → given a text records head ≡ lentOf (declareOf room d p v at) text records head
   unfolding declareOf settleOf

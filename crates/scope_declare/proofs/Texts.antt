@@ -9,10 +9,10 @@ use lib.Dec.{leb, ltb}
 use lib.ListN.{length, take, getD}
 use lib.Seq.{take-all}
 use Rattle.scan.specs.First.{pick}
-use Rattle.scan.specs.Bytes.{part}
-use Rattle.name.specs.Bind.{reservedBind, numberOf, refusedText}
-use Rattle.name.specs.declared.Declares.{Declares}
-use Rattle.name.specs.declared.Declares.the-variants.{Nothing, Default, Named}
+use Rattle.scan.specs.Bytes.{part, Marks}
+use Rattle.name.specs.Bind.{reservedBind, namedNumbers, numberOf, refusedText}
+use Rattle.name.specs.declared.PrefixDeclaration.{PrefixDeclaration}
+use Rattle.name.specs.declared.PrefixDeclaration.the-variants.{Nothing, Default, Named}
 use Rattle.name.specs.declared.NamedCheck.{NamedCheck}
 use Rattle.name.specs.declared.NamedCheck.the-variants as Check
 use Rattle.scope_table.specs.Table.{validOf}
@@ -23,7 +23,7 @@ use Rattle.scope_table.specs.declared.NamespaceResult.the-variants.{Done, TooMa
 use Rattle.scope_change.specs.Change.{whole, refusalOf, appendOf}
 use Rattle.scope_change.specs.declared.Room.{Room}
 use Rattle.scope_declare.specs.Declare.{wholly, namedOf, judgeOf, settleOf, declareOf, addOf}
-use Rattle.scope_declare.specs.Texts.{Marks, HoldsText}
+use Rattle.scope_declare.specs.Texts.{HoldsText}
 use Rattle.scope_declare.specs.declared.Places.{Places}
 
 -- 16, 18, 19 hold none
@@ -57,7 +57,7 @@ module _ (ps vs p v : List ℕ) (at : Places) (here : Marks ps (at .«prefix_sta
   named-holds Check.InvalidPrefixForXml = here
   named-holds Check.InvalidPrefixForXmlns = here
 
-  pub declare-holds : (d : Declares) → HoldsText ps vs (declareOf room d p v at x .answer) (refusedText (reservedBind p v) p v)
+  pub declare-holds : (d : PrefixDeclaration) → HoldsText ps vs (declareOf room d p v at x .answer) (refusedText (reservedBind p v) p v)
   unfolding declareOf judgeOf settleOf
   declare-holds Nothing = tt
   declare-holds Default = append-none ps vs _ room x (take 0 p) v
@@ -69,7 +69,7 @@ unfolding part
 whole-marks t = record { ahead = zero-le; inside = omega arith; between = take-all (length t - 0) t (omega arith) }
 
 -- `add`: the bounds are those of its argument.
-pub add-holds : (d : Declares) (p v : List ℕ) (x : NamespaceResolver) → HoldsText p v (addOf d p v x .answer) (refusedText (reservedBind p v) p v)
+pub add-holds : (d : PrefixDeclaration) (p v : List ℕ) (x : NamespaceResolver) → HoldsText p v (addOf d p v x .answer) (refusedText (reservedBind p v) p v)
 unfolding addOf
 add-holds d p v x = by (validOf x) where
   by : (t : Bool) → HoldsText p v (pick t (declareOf whole d p v (wholly p v) x) (changed BadResolver x) .answer) (refusedText (reservedBind p v) p v)
@@ -78,7 +78,7 @@ add-holds d p v x = by (validOf x) where
 
 -- And a named declaration that is refused so has that answer, by its number.
 pub add-refuses : (p v : List ℕ) (x : NamespaceResolver) → validOf x ≡ true → (numberOf (reservedBind p v) ≡ 0 → ⊥) → getD (changeNumbers (addOf Named p v x .answer)) 0 0 ≡ numberOf (reservedBind p v)
-unfolding addOf declareOf judgeOf namedOf settleOf numberOf changeNumbers
+unfolding addOf declareOf judgeOf namedOf settleOf namedNumbers changeNumbers
 add-refuses p v x ok n = rw ok (by (reservedBind p v) n) where
   by : (k : NamedCheck) → (numberOf k ≡ 0 → ⊥) → getD (changeNumbers (settleOf whole (namedOf k p (wholly p v)) p v x .answer)) 0 0 ≡ numberOf k
   by Check.Fine n = absurd (n refl)

@@ -4,8 +4,8 @@ use mathlib.Core.List.{List}
 use lib.ListN.{length, take}
 use Rattle.scan.specs.First.{pick}
 use Rattle.name.specs.Bind.{reservedBind}
-use Rattle.name.specs.declared.Declares.{Declares}
-use Rattle.name.specs.declared.Declares.the-variants.{Nothing, Default, Named}
+use Rattle.name.specs.declared.PrefixDeclaration.{PrefixDeclaration}
+use Rattle.name.specs.declared.PrefixDeclaration.the-variants.{Nothing, Default, Named}
 use Rattle.name.specs.declared.NamedCheck.{NamedCheck}
 use Rattle.name.specs.declared.NamedCheck.the-variants as Check
 use Rattle.scope_table.specs.Table.{headOf, resolverOf, validOf}
@@ -41,7 +41,7 @@ namedOf Check.InvalidPrefixForXmlns p at = Keep (InvalidPrefixForXmlns (at .«pr
 
 -- What the prefix and the value of a declaration say, whatever the resolver holds: 12 to 15 for a named prefix, nothing
 -- for a default, which is added with no prefix. A name that declares nothing adds nothing.
-unfoldable pub judgeOf : Declares → (prefix value : List ℕ) → Places → Judged
+unfoldable pub judgeOf : PrefixDeclaration → (prefix value : List ℕ) → Places → Judged
 judgeOf Nothing p v at = Keep Done
 judgeOf Default p v at = Bind 0
 judgeOf Named p v at = namedOf (reservedBind p v) p at
@@ -52,7 +52,7 @@ settleOf room (Keep a) p v x = changed a x
 settleOf room (Bind n) p v x = appendOf room (take n p) v x
 
 -- A declaration on a resolver of the right form: 12 to 15, then 16, 18, 19, and else one binding more.
-unfoldable pub declareOf : Room → Declares → (prefix value : List ℕ) → Places → NamespaceResolver → Changed
+unfoldable pub declareOf : Room → PrefixDeclaration → (prefix value : List ℕ) → Places → NamespaceResolver → Changed
 declareOf room d p v at x = settleOf room (judgeOf d p v at) p v x
 
 -- the whole of a prefix and of a value
@@ -60,7 +60,7 @@ abbrev pub wholly : (prefix value : List ℕ) → Places
 wholly p v = placesOf 0 (length p) 0 (length v)
 
 -- `add`: 20 comes first. What 12 to 15 hold is the whole of its argument.
-unfoldable pub addOf : Declares → (prefix value : List ℕ) → NamespaceResolver → Changed
+unfoldable pub addOf : PrefixDeclaration → (prefix value : List ℕ) → NamespaceResolver → Changed
 addOf d p v x = pick (validOf x) (declareOf whole d p v (wholly p v) x) (changed BadResolver x)
 
 -- `pop` sets one level lower, from 0 to 0.

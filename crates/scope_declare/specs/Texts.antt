@@ -1,17 +1,9 @@
 -- The text that 12 to 15 hold. The crate's errors hold the text itself; here an answer holds its bounds.
-use Prim.Native.Nat.{ℕ, _≤_}
-use mathlib.Core.Path.{_≡_}
+use Prim.Native.Nat.{ℕ}
 use mathlib.Core.List.{List}
-use lib.ListN.{length}
-use Rattle.scan.specs.Bytes.{part}
+use Rattle.scan.specs.Bytes.{Marks}
 use Rattle.scope_table.specs.declared.NamespaceResult.{NamespaceResult}
 use Rattle.scope_table.specs.declared.NamespaceResult.the-variants.{Done, InvalidXmlPrefixBind, InvalidXmlnsPrefixBind, InvalidPrefixForXml, InvalidPrefixForXmlns, TooManyBindings, TooDeeplyNested, BindingTableFull, TextFull, BadResolver, LendMore, WrongLength}
-
--- Bounds mark a text in some bytes: they lie in them, and the text is what stands between them.
-pub record Marks (bytes : List ℕ) (start end : ℕ) (text : List ℕ) : Type 0 where
-  pub ahead : start ≤ end
-  pub inside : end ≤ length bytes
-  pub between : part bytes start end ≡ text
 
 -- What 12 to 15 hold is this text, as their bounds mark it: 12 and 13 in the bytes that the value stands in, 14 and 15 in
 -- those that the prefix stands in. No other answer holds a text.

@@ -3,8 +3,8 @@
 // Each is there twice: on lent memory, where the work is done and nothing is copied (`add_in`, `pop_in`, and `set_level_in` of
 // scope_change), and by value, where the new resolver is handed back. These test the form of the resolver first (refusal 20);
 // `declare_in`, reading the level, and reading or setting the limit do not.
-use name::Declares;
 use name::NamedCheck;
+use name::PrefixDeclaration;
 use scope_change::Room;
 use scope_table::Changed;
 use scope_table::Form;
@@ -15,6 +15,7 @@ use scope_table::Outcome;
 ghost use mathlib.Core.Path.{_≡_};
 ghost use Prim.Native.Nat.{_-_};
 ghost use lib.ListN.{length};
+ghost use Rattle.scope_table.specs.Answer.{numberedChange};
 ghost use Rattle.scope_table.specs.Lent.{given, lentOf};
 ghost use Rattle.scope_change.specs.Change.{levelOf};
 ghost use Rattle.scope_change.specs.Asked.{CanAppend};
@@ -37,13 +38,18 @@ pub enum Judged {
 
 // Refusals 12 to 15, and the two declarations that add nothing: the arms of `NamespaceResolver::add`, src/name.rs, before
 // the limit is looked at.
-pub fn judge<'a>(declares: Declares, prefix: &'a [u8], value: &'a [u8], at: Places) -> Judged
+pub fn judge<'a>(
+    declares: PrefixDeclaration,
+    prefix: &'a [u8],
+    value: &'a [u8],
+    at: Places,
+) -> Judged
     ensures { λ r. ⌜ r ≡ judgeOf declares (now (prefix .entry)) (now (value .entry)) at ⌝ }
 {
     match declares {
-        Declares::Nothing => return Judged::Keep(NamespaceResult::Done),
-        Declares::Default => return Judged::Bind(0),
-        Declares::Named => {}
+        PrefixDeclaration::Nothing => return Judged::Keep(NamespaceResult::Done),
+        PrefixDeclaration::Default => return Judged::Bind(0),
+        PrefixDeclaration::Named => {}
     }
     let check = name::check_named(prefix, value);
     match check {
@@ -70,7 +76,7 @@ pub fn declare_in<'a>(
     records: &mut [usize],
     head: Head,
     room: Room,
-    declares: Declares,
+    declares: PrefixDeclaration,
     prefix: &'a [u8],
     value: &'a [u8],
     at: Places,
@@ -97,7 +103,7 @@ pub fn add_in<'a>(
     text: &mut [u8],
     records: &mut [usize],
     head: Head,
-    declares: Declares,
+    declares: PrefixDeclaration,
     prefix: &'a [u8],
     value: &'a [u8],
 ) -> Outcome
@@ -159,11 +165,11 @@ pub fn pop_in(text: &mut [u8], records: &mut [usize], head: Head) -> Outcome
 // `NamespaceResolver::add`, src/name.rs.
 pub fn add<'a>(
     r: NamespaceResolver,
-    declares: Declares,
+    declares: PrefixDeclaration,
     prefix: &'a [u8],
     value: &'a [u8],
 ) -> Changed
-    ensures { λ c. ⌜ c ≡ addOf declares (now (prefix .entry)) (now (value .entry)) r ⌝ }
+    ensures { λ c. ⌜ numberedChange c ≡ numberedChange (addOf declares (now (prefix .entry)) (now (value .entry)) r) ⌝ }
 {
     let mut text = r.text;
     let mut records = r.records;
@@ -183,7 +189,7 @@ pub fn add<'a>(
 
 // `NamespaceResolver::set_level`, src/name.rs.
 pub fn set_level(r: NamespaceResolver, to: u16) -> Changed
-    ensures { λ c. ⌜ c ≡ levelOf to r ⌝ }
+    ensures { λ c. ⌜ numberedChange c ≡ numberedChange (levelOf to r) ⌝ }
 {
     let mut text = r.text;
     let mut records = r.records;
@@ -203,7 +209,7 @@ pub fn set_level(r: NamespaceResolver, to: u16) -> Changed
 
 // `NamespaceResolver::pop`, src/name.rs.
 pub fn pop(r: NamespaceResolver) -> Changed
-    ensures { λ c. ⌜ c ≡ popOf r ⌝ }
+    ensures { λ c. ⌜ numberedChange c ≡ numberedChange (popOf r) ⌝ }
 {
     let mut text = r.text;
     let mut records = r.records;

@@ -6,7 +6,8 @@ use mathlib.Core.List.{List}
 use lib.Dec.{eqb}
 use lib.ListN.{getD, length}
 use Rattle.scan.specs.First.{pick}
-use Rattle.scope_listing.specs.Listing.{listedNumbers}
+use Rattle.scope_listing.specs.Listing.{listing, listedNumbers, numberedListing}
+use Rattle.scope_listing.specs.declared.Listing.{Listing}
 use Rattle.scope_listing.specs.declared.Listed.{Listed}
 use Rattle.scope_listing.specs.declared.Listed.the-variants.{Binding, End, BadResolver, WrongLength}
 
@@ -25,3 +26,9 @@ listed-back WrongLength = refl
 
 pub listed-apart : (a b : Listed) → listedNumbers a ≡ listedNumbers b → a ≡ b
 listed-apart a b e = sym (listed-back a) ∙ ap listedBy e ∙ listed-back b
+
+-- and with them the place, what a listing hands back
+pub listing-apart : (k l : Listing) → numberedListing k ≡ numberedListing l → k ≡ l
+listing-apart k l e =
+    ap (λ (a : Listed). listing a (k .place)) (listed-apart (k .answer) (l .answer) (ap (λ (x : List ℕ × ℕ). x .0) e))
+    ∙ ap (listing (l .answer)) (ap (λ (x : List ℕ × ℕ). x .1) e)

@@ -11,9 +11,10 @@ use borrow.Author.Tests.{leb-true, leb-false}
 use Rattle.scan.specs.First.{pick, firstTo}
 use Rattle.scan.specs.Bytes.{sameBytes}
 use Rattle.scan.proofs.Laws.{IsFirst, to-first, first-only, to-past}
+use Rattle.scan.specs.Lists.{padTo}
 use Rattle.scope_table.specs.Records.{recordAt, valueEnd, prefixIn}
 use Rattle.scope_table.specs.Table.{TEXT, NUMBERS, validOf}
-use Rattle.scope_table.specs.Lent.{padTo, lent, formOf}
+use Rattle.scope_table.specs.Lent.{lent, formOf}
 use Rattle.scope_table.proofs.Pad.{pad-records}
 use Rattle.scope_table.proofs.Good.{Ready, ready}
 use Rattle.scope_table.proofs.Calls.{asks-bad, asks-good}

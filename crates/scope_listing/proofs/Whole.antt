@@ -11,14 +11,14 @@ use native.Mathlib.Omega.{arith}
 use lib.Dec.{eqb, leb, ltb}
 use lib.ListN.{length, take, drop}
 use borrow.Author.Tests.{eq-eqb, ne-eqb, eqb-true, eqb-false, leb-true, leb-false, lt-ltb, le-ltb, ltb-true, ltb-false, not-true}
-use Rattle.scan.specs.First.{pick, stopOr, firstOf, firstTo}
+use Rattle.scan.specs.First.{pick, firstOf, firstTo}
 use Rattle.scan.specs.Bytes.{part, sameBytes}
 use Rattle.scan.proofs.Laws.{IsFirst, to-first, to-past}
 use Rattle.scan.proofs.Bytes.{both, same-refl}
 use Rattle.scan.proofs.Lists.{part-length}
 use Rattle.scope_table.specs.Records.{recordAt, valueStart, valueEnd, prefixIn}
 use Rattle.scope_table.specs.Table.{validOf}
-use Rattle.scope_table.proofs.Good.{Formed, formed-valid, lies}
+use Rattle.scope_table.proofs.Good.{form-of, lies}
 use Rattle.scope_table.specs.declared.NamespaceBinding.{NamespaceBinding}
 use Rattle.scope_table.specs.declared.NamespaceResolver.{NamespaceResolver}
 use Rattle.scope_table.specs.Lists.{lastBelow}
@@ -38,8 +38,8 @@ module _ (rows : ℕ → NamespaceBinding) (p : ℕ → Bool) where
       (r < i + d → showing rows p i d ≡ shownOf (rows r) ∷ showing rows p (suc r) (i + d - suc r))
       × (i + d ≤ r → showing rows p i d ≡ [])
 
-  split-by : (i d r : ℕ) (t : Bool) → p i ≡ t → Split (suc i) d r → Split i (suc d) (stopOr t i r)
-  unfolding Split showing stopOr
+  split-by : (i d r : ℕ) (t : Bool) → p i ≡ t → Split (suc i) d r → Split i (suc d) (pick t i r)
+  unfolding Split showing
   split-by i d r true e s =
       let q : i + suc d - suc i ≡ d = omega arith in
       (λ h. rw (e, q), λ h. absurd (omega (arith, h)))
@@ -108,7 +108,7 @@ module _ (rows : ℕ → NamespaceBinding) (p : ℕ → Bool) where
 
 -- `bindings` and `bindings_of`, from place 0 on.
 
-past-on : (place j : ℕ) → pastBuiltIn place ≤ j → pastBuiltIn (suc j) ≡ suc j
+pub past-on : (place j : ℕ) → pastBuiltIn place ≤ j → pastBuiltIn (suc j) ≡ suc j
 unfolding pastBuiltIn
 past-on place j h =
     let two : 2 ≤ pastBuiltIn place = by (ltb place 2) refl in
@@ -184,7 +184,7 @@ module _ (x : NamespaceResolver) (v : validOf x ≡ true) (w : x .head .used ≤
   some-length : (row i .«prefix_len» ≡ 0 → ⊥) → length (prefixIn (x .text) (row i)) ≡ 0 → ⊥
   unfolding prefixIn row
   some-length n z =
-      let l = lies (x .text) (x .records) (x .head) (formed-valid x v) i h in
+      let l = lies (x .text) (x .records) (x .head) (form-of x v) i h in
       n (omega (arith, part-length (x .text) (row i .start) (valueStart (row i)) (omega arith) (omega arith)))
 
   default-later : row i .«prefix_len» ≡ 0 → (k : ℕ) → i < k → k < x .head .count → isDefault (row k) ≡ false

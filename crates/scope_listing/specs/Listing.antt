@@ -27,6 +27,10 @@ listedNumbers End = 0 ∷ []
 listedNumbers BadResolver = 20 ∷ []
 listedNumbers WrongLength = 99 ∷ []
 
+-- What a listing shows by its numbers, beside the place to go on from: what a call for users promises.
+abbrev pub numberedListing : Listing → List ℕ × ℕ
+numberedListing l = (listedNumbers (l .answer), l .place)
+
 -- such a list as five numbers, 0 where it has none
 abbrev pub linedUp : List ℕ → LinedUp
 linedUp ns =

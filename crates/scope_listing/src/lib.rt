@@ -19,7 +19,7 @@ ghost use Rattle.scope_table.specs.Table.{TEXT};
 ghost use Rattle.scope_table.specs.Lent.{lent};
 ghost use Rattle.scope_lookup.specs.Inside.{Inside};
 ghost use Rattle.scope_lookup.specs.Lookup.{hasPrefix};
-ghost use Rattle.scope_listing.specs.Listing.{Rising, listing, listedNumbers, linedUp, inEffect, atLevel, listedAt, pastBuiltIn, bindingsOf, bindingsAtOf};
+ghost use Rattle.scope_listing.specs.Listing.{Rising, listing, listedNumbers, numberedListing, linedUp, inEffect, atLevel, listedAt, pastBuiltIn, bindingsOf, bindingsAtOf};
 ghost use Rattle.scope_listing.specs.declared.Listed.the-variants.{WrongLength};
 
 // What a listing shows.
@@ -241,7 +241,7 @@ fn unlisted(answer: Listed, place: usize) -> Listing
 
 // `NamespaceResolver::bindings`, src/name.rs: what it shows first at or after a place.
 pub fn bindings(r: NamespaceResolver, place: usize) -> Listing
-    ensures { λ l. ⌜ l ≡ bindingsOf place r ⌝ }
+    ensures { λ l. ⌜ numberedListing l ≡ numberedListing (bindingsOf place r) ⌝ }
 {
     let head = r.head;
     bindings_in(&r.text, &r.records, head, place)
@@ -249,7 +249,7 @@ pub fn bindings(r: NamespaceResolver, place: usize) -> Listing
 
 // `NamespaceResolver::bindings_of`, src/name.rs: what it shows first at or after a place.
 pub fn bindings_of(r: NamespaceResolver, asked: u16, place: usize) -> Listing
-    ensures { λ l. ⌜ l ≡ bindingsAtOf asked place r ⌝ }
+    ensures { λ l. ⌜ numberedListing l ≡ numberedListing (bindingsAtOf asked place r) ⌝ }
 {
     let head = r.head;
     bindings_of_in(&r.text, &r.records, head, asked, place)

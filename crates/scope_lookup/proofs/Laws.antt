@@ -25,7 +25,7 @@ use Rattle.scope_table.specs.declared.NamespaceBinding.{NamespaceBinding}
 use Rattle.scope_table.proofs.Rows.{rows-before}
 use Rattle.scope_table.specs.Lists.{lastBelow}
 use Rattle.scope_lookup.specs.Inside.{Inside}
-use Rattle.scope_lookup.specs.Lookup.{hasPrefix, valueOr, uriPart, prefixPart}
+use Rattle.scope_lookup.specs.Lookup.{hasPrefix, boundBy, valueOr, uriPart, prefixPart}
 use Rattle.scope_lookup.specs.declared.Resolved.{Resolved}
 use Rattle.scope_lookup.specs.declared.Resolved.the-variants.{Bound, Unbound, Unknown, BadResolver, WrongLength}
 use Rattle.scope_lookup.proofs.Resolved as E
@@ -76,7 +76,7 @@ module _ (rows : ℕ → NamespaceBinding) (other : Resolved) where
       let k : rows j .«value_len» ≡ 0 = rw (sub-one (suc j)) at e in
       rw (eq-eqb (rows j .«value_len») 0 k)
 
-  pub value-has : (n : ℕ) → 0 < n → (rows (n - 1) .«value_len» ≡ 0 → ⊥) → Bound (valueStart (rows (n - 1))) (valueEnd (rows (n - 1))) ≡ valueOr rows other n
+  pub value-has : (n : ℕ) → 0 < n → (rows (n - 1) .«value_len» ≡ 0 → ⊥) → boundBy (rows (n - 1)) ≡ valueOr rows other n
   unfolding valueOr
   value-has zero h e = absurd (not-suc-le-zero h)
   value-has (suc j) h e =

@@ -1,3 +1,5 @@
 pub mod Laws
 pub mod Padded
 pub mod Numbers
+pub mod Marked
+pub mod Examples

@@ -9,11 +9,12 @@ use lib.ListN.{length, take}
 use lib.Seq.{take-length}
 use Rattle.scan.specs.First.{pick}
 use Rattle.scan.specs.Bytes.{sameBytes}
-use Rattle.scan.proofs.Lists.{part-same}
+use Rattle.scan.proofs.Lists.{part-same, pad-take}
+use Rattle.scan.specs.Lists.{padTo}
 use Rattle.scope_table.specs.Records.{recordAt, valueStart, valueEnd, prefixIn}
 use Rattle.scope_table.specs.Table.{TEXT, NUMBERS, validOf}
-use Rattle.scope_table.specs.Lent.{padTo, standsFor, lent, formOf}
-use Rattle.scope_table.proofs.Pad.{pad-take, pad-records}
+use Rattle.scope_table.specs.Lent.{standsFor, lent, formOf}
+use Rattle.scope_table.proofs.Pad.{pad-records}
 use Rattle.scope_table.proofs.Good.{Ready, ready, lies}
 use Rattle.scope_table.proofs.Calls.{asks-bad, asks-good}
 use Rattle.scope_table.specs.declared.Head.{Head}

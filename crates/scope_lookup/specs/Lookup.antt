@@ -35,10 +35,14 @@ hasPrefix text p b = sameBytes (prefixIn text b) p
 unfoldable pub isDefault : NamespaceBinding → Bool
 isDefault b = eqb (b .«prefix_len») 0
 
+-- a record's URI, as bounds in the text
+abbrev pub boundBy : NamespaceBinding → Resolved
+boundBy b = Bound (valueStart b) (valueEnd b)
+
 -- The URI of the record with this number, counted from 1; `other` where there is none, or its value is empty.
 unfoldable pub valueOr : (rows : ℕ → NamespaceBinding) → Resolved → ℕ → Resolved
 valueOr rows other zero = other
-valueOr rows other (suc i) = pick (eqb (rows i .«value_len») 0) other (Bound (valueStart (rows i)) (valueEnd (rows i)))
+valueOr rows other (suc i) = pick (eqb (rows i .«value_len») 0) other (boundBy (rows i))
 
 -- An explicit prefix: the last record with it. With no record or an empty value it is Unknown, and an empty one always is.
 -- It stands from 0 to its length.

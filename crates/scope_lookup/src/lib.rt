@@ -24,7 +24,7 @@ ghost use Rattle.scope_table.specs.Table.{TEXT};
 ghost use Rattle.scope_table.specs.Answer.{toldOf};
 ghost use Rattle.scope_table.specs.Lent.{lent};
 ghost use Rattle.scope_lookup.specs.Inside.{Inside};
-ghost use Rattle.scope_lookup.specs.Lookup.{hasPrefix, isDefault, valueOr, explicitOf, defaultOf, amongOf, resolvePrefixOf, resolveOf, uriPart, prefixPart, namespaceOf, resolvedNumbers};
+ghost use Rattle.scope_lookup.specs.Lookup.{hasPrefix, isDefault, valueOr, explicitOf, defaultOf, amongOf, resolvePrefixOf, resolveOf, uriPart, prefixPart, namespaceOf, resolvedNumbers, namespaceNumbers};
 ghost use Rattle.scope_lookup.specs.declared.Resolved.the-variants.{WrongLength};
 
 // What a name resolves to: `ResolveResult` of src/name.rs, refusal 20, and the answer of lent memory alone. The bounds of
@@ -232,7 +232,7 @@ pub fn resolve_in<'t, 'n>(
 
 // `NamespaceResolver::resolve`, src/name.rs. What is handed back of the name is `local_part`.
 pub fn resolve(r: NamespaceResolver, name: &[u8], wanted: bool) -> Resolved
-    ensures { λ f. ⌜ f ≡ resolveOf (now (name .entry)) wanted r ⌝ }
+    ensures { λ f. ⌜ resolvedNumbers f ≡ resolvedNumbers (resolveOf (now (name .entry)) wanted r) ⌝ }
 {
     let head = r.head;
     resolve_in(&r.text, &r.records, head, name, wanted)
@@ -240,7 +240,7 @@ pub fn resolve(r: NamespaceResolver, name: &[u8], wanted: bool) -> Resolved
 
 // `NamespaceResolver::resolve_element`, src/name.rs.
 pub fn resolve_element(r: NamespaceResolver, name: &[u8]) -> Resolved
-    ensures { λ f. ⌜ f ≡ resolveOf (now (name .entry)) true r ⌝ }
+    ensures { λ f. ⌜ resolvedNumbers f ≡ resolvedNumbers (resolveOf (now (name .entry)) true r) ⌝ }
 {
     let head = r.head;
     resolve_in(&r.text, &r.records, head, name, true)
@@ -248,7 +248,7 @@ pub fn resolve_element(r: NamespaceResolver, name: &[u8]) -> Resolved
 
 // `NamespaceResolver::resolve_attribute`, src/name.rs.
 pub fn resolve_attribute(r: NamespaceResolver, name: &[u8]) -> Resolved
-    ensures { λ f. ⌜ f ≡ resolveOf (now (name .entry)) false r ⌝ }
+    ensures { λ f. ⌜ resolvedNumbers f ≡ resolvedNumbers (resolveOf (now (name .entry)) false r) ⌝ }
 {
     let head = r.head;
     resolve_in(&r.text, &r.records, head, name, false)
@@ -256,7 +256,7 @@ pub fn resolve_attribute(r: NamespaceResolver, name: &[u8]) -> Resolved
 
 // `NamespaceResolver::resolve_prefix`, src/name.rs.
 pub fn resolve_prefix(r: NamespaceResolver, prefix: &[u8], named: bool, wanted: bool) -> Resolved
-    ensures { λ f. ⌜ f ≡ resolvePrefixOf (now (prefix .entry)) named wanted r ⌝ }
+    ensures { λ f. ⌜ resolvedNumbers f ≡ resolvedNumbers (resolvePrefixOf (now (prefix .entry)) named wanted r) ⌝ }
 {
     let head = r.head;
     resolve_prefix_in(&r.text, &r.records, head, prefix, named, wanted)
@@ -291,7 +291,7 @@ pub fn local_part<'t, 'n>(text: &'t [u8], name: &'n [u8]) -> &'n [u8]
 
 // `TryFrom<ResolveResult>` for `Option<Namespace>`, src/name.rs. Nothing is changed by it, whatever it answers.
 pub fn namespace_of(found: Resolved) -> Namespace
-    ensures { λ r. ⌜ r ≡ namespaceOf found ⌝ }
+    ensures { λ r. ⌜ namespaceNumbers r ≡ namespaceNumbers (namespaceOf found) ⌝ }
 {
     match found {
         Resolved::Bound(from, to) => Namespace::Bound(from, to),

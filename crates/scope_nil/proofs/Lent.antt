@@ -12,10 +12,10 @@ use lib.Seq.{take-all, take-length, length-take-le}
 use borrow.Author.Tests.{le-leb, lt-leb}
 use Rattle.scan.specs.First.{pick}
 use Rattle.scan.specs.Bytes.{part, inside, sameBytes, bytes}
-use Rattle.scan.specs.Lists.{over}
+use Rattle.scan.specs.Lists.{over, padTo}
 use Rattle.scan.proofs.Laws.{picks}
 use Rattle.scan.proofs.Bytes.{both}
-use Rattle.scan.proofs.Lists.{part-same}
+use Rattle.scan.proofs.Lists.{part-same, pad-length, pad-take}
 use Rattle.name.specs.Split.{hasColon, prefixOf, localOf}
 use Rattle.tag_keys.specs.Keys.{capacity, holds, tableGood, KeysIn}
 use Rattle.tag_keys.proofs.Laws.{table-in, facts-hold}
@@ -23,15 +23,15 @@ use Rattle.tag_step.specs.declared.Place.the-variants.{Done}
 use Rattle.tag_step.specs.declared.IterState.{IterState}
 use Rattle.tag_step.specs.declared.Answer.{Answer}
 use Rattle.tag_step.specs.Next.{placeGood, stateGood, nextOf, lentState}
-use Rattle.tag_step.specs.Lent.{padKeys, wholeOf, steppedOf}
+use Rattle.tag_step.specs.Lent.{wholeOf, steppedOf}
 use Rattle.tag_step.specs.Run.{isEnd}
 use Rattle.tag_step.proofs.Good.{Sized, next-stays-good, next-sized}
-use Rattle.tag_step.proofs.Lent.{pad-length, pad-front, whole-good, bad-leaves, full-leaves}
+use Rattle.tag_step.proofs.Lent.{whole-full, whole-good, bad-leaves, full-leaves}
 use Rattle.tag_parts.specs.Parts.{keyPart, valuePart, truthOf}
 use Rattle.scope_table.specs.Records.{recordAt, valueStart, valueEnd}
 use Rattle.scope_table.specs.Table.{TEXT, NUMBERS, resolverOf, validOf}
-use Rattle.scope_table.specs.Lent.{padTo, standsFor, lent, formOf}
-use Rattle.scope_table.proofs.Pad.{pad-take, pad-records}
+use Rattle.scope_table.specs.Lent.{standsFor, lent, formOf}
+use Rattle.scope_table.proofs.Pad.{pad-records}
 use Rattle.scope_table.proofs.Good.{Ready, ready}
 use Rattle.scope_table.proofs.Full.{full-asks}
 use Rattle.scope_table.proofs.Calls.{asks-wrong, asks-bad, asks-good}
@@ -46,7 +46,7 @@ use Rattle.scope_lookup.specs.declared.Resolved.{Resolved}
 use Rattle.scope_lookup.specs.declared.Resolved.the-variants.{Bound, Unbound, Unknown}
 use Rattle.scope_table.proofs.Last.{last-within}
 use Rattle.scope_lookup.proofs.Padded.{pad-among, ready-inside}
-use Rattle.scope_nil.specs.Nil.{said, standsAt, leftBy, unmovedBy, isYes, instanceUri, isNil, saysNil, searchOf, searched, hasNilOf, heldNil, wholeSearch, nilOnKeys, keysFit, hasNilIn, Searchable, Resting}
+use Rattle.scope_nil.specs.Nil.{said, standsAt, nilLeftBy, unmovedBy, isYes, instanceUri, isNil, saysNil, searchOf, searched, hasNilOf, heldNil, wholeSearch, nilOnKeys, keysFit, hasNilIn, Searchable, Resting}
 use Rattle.scope_nil.specs.declared.HasNil.{HasNil}
 use Rattle.scope_nil.specs.declared.Standing.{Standing}
 use Rattle.scope_nil.specs.declared.Left.{Left}
@@ -129,13 +129,6 @@ unfolding stateGood
 good-few s st g = table-in (length s) (st .starts) (st .ends) (st .count) (both (tableGood (length s) (st .starts) (st .ends) (st .count)) (placeGood s (st .place)) g .0)
 
 -- Tables of full size are the iterator's own.
-pad-full : (t : List ℕ) → length t ≡ capacity → padKeys t ≡ t
-pad-full t e = sym (take-all (length t) (padKeys t) (omega (arith, pad-length t (omega arith)))) ∙ pad-front t
-
-whole-full : (st : IterState) → Sized st → wholeOf st ≡ st
-unfolding wholeOf
-whole-full st z = rw (pad-full (st .starts) (z .starts), pad-full (st .ends) (z .ends))
-
 pub full-search : (x : NamespaceResolver) (s : List ℕ) (st : IterState) → Sized st → stateGood s st ≡ true → searched x s st ≡ wholeSearch x s st
 unfolding wholeSearch heldNil searched Kept
 full-search x s st z g =
@@ -226,8 +219,8 @@ zeros-drop (suc m) (suc k) =
     let e : m - k ≡ suc m - suc k = omega arith in
     zeros-drop m k ∙ ap (λ (n : ℕ). replicate {A = ℕ} n 0) e
 
-copied-in : (t u : List ℕ) → u ≡ over (replicate capacity 0) 0 (take (length t) t) → u ≡ padKeys t
-unfolding over padKeys
+copied-in : (t u : List ℕ) → u ≡ over (replicate capacity 0) 0 (take (length t) t) → u ≡ padTo capacity t
+unfolding over padTo
 copied-in t u e = e ∙ rw (take-length t, zero-add (length t), zeros-drop capacity (length t))
 
 over-all : (t p : List ℕ) → length p ≡ length t → over t 0 p ≡ p
@@ -246,8 +239,8 @@ module _ (x : NamespaceResolver) (s : List ℕ) (at : Standing) (S E : List ℕ)
       let i = good-few s (standsAt at S E) (y .good) in
       record {
         good = sym (whole-good s (standsAt at S E) (y .starts) (y .ends) (facts-hold S E (at .count) (i .placed .0) (i .placed .1))) ∙ y .good;
-        starts = pad-length S (y .starts);
-        ends = pad-length E (y .ends);
+        starts = pad-length capacity S (y .starts);
+        ends = pad-length capacity E (y .ends);
       }
 
   -- the copy is the iterator that the lent tables are, and it can be searched
@@ -260,8 +253,8 @@ module _ (x : NamespaceResolver) (s : List ℕ) (at : Standing) (S E : List ℕ)
     copy-searchable = subst (λ (st : IterState). Searchable s st) (sym whole-copy) whole-searchable
 
     -- its search, and what that leaves of the copy
-    module _ (r : Left) (starts ends : List ℕ) (e : leftBy at r starts ends ≡ searched x s (standsAt at P Q)) where
-      found : leftBy at r starts ends ≡ searched x s (wholeOf (standsAt at S E))
+    module _ (r : Left) (starts ends : List ℕ) (e : nilLeftBy at r starts ends ≡ searched x s (standsAt at P Q)) where
+      found : nilLeftBy at r starts ends ≡ searched x s (wholeOf (standsAt at S E))
       found = e ∙ ap (searched x s) whole-copy
 
       pub left-sized : Sized (lentState (r .place) (at .html) (at .checks) starts ends (r .count))
@@ -270,11 +263,11 @@ module _ (x : NamespaceResolver) (s : List ℕ) (at : Standing) (S E : List ℕ)
           subst (λ (h : HasNil). Sized (h .state)) (sym found)
           (search-keeps (suc (suc (length s))) x s (wholeOf (standsAt at S E)) (record { starts = whole-searchable .starts; ends = whole-searchable .ends }) (whole-searchable .good) .0)
 
-      pub short-more : holds S E (r .count) ≡ false → leftBy at (unmovedBy Nil.LendMore at) S E ≡ wholeSearch x s (standsAt at S E)
+      pub short-more : holds S E (r .count) ≡ false → nilLeftBy at (unmovedBy Nil.LendMore at) S E ≡ wholeSearch x s (standsAt at S E)
       unfolding wholeSearch heldNil
       short-more h = rw (← found, h)
 
-      pub short-held : holds S E (r .count) ≡ true → (S' E' : List ℕ) → S' ≡ over S 0 (take (length S) starts) → E' ≡ over E 0 (take (length E) ends) → leftBy at r S' E' ≡ wholeSearch x s (standsAt at S E)
+      pub short-held : holds S E (r .count) ≡ true → (S' E' : List ℕ) → S' ≡ over S 0 (take (length S) starts) → E' ≡ over E 0 (take (length E) ends) → nilLeftBy at r S' E' ≡ wholeSearch x s (standsAt at S E)
       unfolding wholeSearch heldNil
       short-held h S' E' u v =
           let a : S' ≡ take (length S) starts = copied-back S starts S' (omega (arith, left-sized .starts, y .starts)) u in

@@ -3,3 +3,4 @@ pub mod Lent
 pub mod Among
 pub mod Resolves
 pub mod Numbers
+pub mod Examples

@@ -20,18 +20,17 @@ use Rattle.tag_step.specs.declared.Start.{Start}
 use Rattle.tag_step.specs.declared.Start.the-variants.{From, Ended}
 use Rattle.tag_step.specs.declared.Answer.{Answer}
 use Rattle.tag_step.specs.declared.Answer.the-variants.{End, DoubleQ, SingleQ, Unquoted, Empty, ExpectedEq, ExpectedValue, UnquotedValue, ExpectedQuote, Duplicated, KeyTableFull, BadState}
-use Rattle.tag_step.specs.declared.Outcome.{Outcome}
 use Rattle.tag_step.specs.declared.IterState.{IterState}
 use Rattle.tag_step.specs.declared.Step.{Step}
 use Rattle.tag_parts.specs.declared.Truth.{Truth}
 use Rattle.tag_parts.specs.declared.Truth.the-variants.{Yes, No, Neither}
 use Rattle.tag_step.specs.Read.{recoverOf}
-use Rattle.tag_step.specs.Next.{Ready, lent, made, stepOf, keysOf, stateGood, noKeys, badReading, leaves, nextOf, lentState}
+use Rattle.tag_step.specs.Next.{keysOf, stateGood, noKeys, badReading, leaves, nextOf, lentState}
 use Rattle.tag_step.specs.Run.{isEnd}
 use Rattle.tag_parts.specs.Parts.{keyPart, valuePart, truthOf}
 use Rattle.tag_step.proofs.Answer as A
 use Rattle.tag_parts.proofs.Truth as T
-use Rattle.tag_step.proofs.Whole.{lent-step, next-bad, next-steps, next-ready}
+use Rattle.tag_step.proofs.Whole.{next-bad, next-steps}
 use Rattle.tag_step.proofs.Good.{Sized, next-stays-good, next-sized}
 use Rattle.tag_step.proofs.Run.{todo, todo-falls}
 use Rattle.scope_table.specs.Records.{recordAt}
@@ -42,7 +41,7 @@ use Rattle.scope_nil.specs.declared.HasNil.{HasNil}
 use Rattle.scope_nil.specs.declared.Standing.{Standing}
 use Rattle.scope_nil.specs.declared.Left.{Left}
 use Rattle.scope_nil.specs.declared.Nil.the-variants as Nil
-use Rattle.scope_nil.specs.Nil.{said, leftBy, isYes, instanceUri, isNil, saysNil, searchOf, searched, hasNilOf}
+use Rattle.scope_nil.specs.Nil.{said, nilLeftBy, isYes, instanceUri, isNil, saysNil, searchOf, searched, hasNilOf}
 
 -- One attribute.
 
@@ -148,24 +147,16 @@ pub says-by : (x : NamespaceResolver) (s : List ℕ) (a : Answer) (key value : L
 unfolding saysNil
 says-by x s a key value b t k v e h = rw (sym k, sym v) (sym e ∙ h)
 
--- A step on lent tables leaves an iterator as good.
-module _ (s : List ℕ) (place : Place) (html checks : Bool) (starts ends : List ℕ) (count : ℕ) (z : Sized (lentState place html checks starts ends count)) (g : stateGood s (lentState place html checks starts ends count) ≡ true) where
-  pub lent-ready : Ready s checks (lent starts ends count) place
-  unfolding keysOf
-  lent-ready = next-ready s (lentState place html checks starts ends count) g (z .starts) (z .ends)
+-- The next answer leaves an iterator as good.
+module _ (s : List ℕ) (st : IterState) (z : Sized st) (g : stateGood s st ≡ true) (a : Answer) (after : IterState) (step : record { answer = a; state = after } ≡ nextOf s st) where
+  pub lent-good : stateGood s after ≡ true
+  lent-good = subst (λ (y : Step). stateGood s (y .state) ≡ true) (sym step) (next-stays-good s st z)
 
-  module _ (r : Outcome) (starts' ends' : List ℕ) (e : made r starts' ends' ≡ stepOf s html checks (lent starts ends count) place) where
-    step : record { answer = r .answer; state = lentState (r .place) html checks starts' ends' (r .count) } ≡ nextOf s (lentState place html checks starts ends count)
-    step = lent-step s place html checks starts ends count g r starts' ends' e
+  pub lent-sized : Sized after
+  lent-sized = subst (λ (y : Step). Sized (y .state)) (sym step) (next-sized s st z)
 
-    pub lent-good : stateGood s (lentState (r .place) html checks starts' ends' (r .count)) ≡ true
-    lent-good = subst (λ (y : Step). stateGood s (y .state) ≡ true) (sym step) (next-stays-good s (lentState place html checks starts ends count) z)
-
-    pub lent-sized : Sized (lentState (r .place) html checks starts' ends' (r .count))
-    lent-sized = subst (λ (y : Step). Sized (y .state)) (sym step) (next-sized s (lentState place html checks starts ends count) z)
-
-    pub lent-falls : isEnd (r .answer) ≡ false → unread s (lentState (r .place) html checks starts' ends' (r .count)) < unread s (lentState place html checks starts ends count)
-    lent-falls = subst (λ (y : Step). isEnd (y .answer) ≡ false → unread s (y .state) < unread s (lentState place html checks starts ends count)) (sym step) (next-falls s (lentState place html checks starts ends count) g)
+  pub lent-falls : isEnd a ≡ false → unread s after < unread s st
+  lent-falls = subst (λ (y : Step). isEnd (y .answer) ≡ false → unread s (y .state) < unread s st) (sym step) (next-falls s st g)
 
 -- `has_nil`: 20, then 7, then the search.
 module _ (s : List ℕ) (st : IterState) (x : NamespaceResolver) where
@@ -189,7 +180,7 @@ left-by-7 s place html checks starts ends starts' ends' count z g a b =
     rw (a, b, z .starts, z .ends) (ap (λ (y : Step). y .state) (next-bad s (lentState place html checks starts ends count) g))
 
 -- What the contract of `has_nil_in` leaves: one answer, and one content of both tables.
-pub left-one : (h : HasNil) (at : Standing) (o p : Left) (starts ends starts' ends' : List ℕ) → leftBy at o starts ends ≡ h → leftBy at p starts' ends' ≡ h → (o ≡ p) × (starts ≡ starts') × (ends ≡ ends')
+pub left-one : (h : HasNil) (at : Standing) (o p : Left) (starts ends starts' ends' : List ℕ) → nilLeftBy at o starts ends ≡ h → nilLeftBy at p starts' ends' ≡ h → (o ≡ p) × (starts ≡ starts') × (ends ≡ ends')
 left-one h at o p starts ends starts' ends' a b =
-    let e : leftBy at o starts ends ≡ leftBy at p starts' ends' = a ∙ sym b in
+    let e : nilLeftBy at o starts ends ≡ nilLeftBy at p starts' ends' = a ∙ sym b in
     (ap (λ (r : HasNil). record { answer = r .answer; place = r .state .place; count = r .state .count }) e, ap (λ (r : HasNil). r .state .starts) e, ap (λ (r : HasNil). r .state .ends) e)

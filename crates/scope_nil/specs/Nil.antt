@@ -3,7 +3,7 @@
 use Prim.Native.Nat.{ℕ, zero, suc, _≤_}
 use mathlib.Core.Path.{_≡_}
 use mathlib.Core.Bool.{Bool, true, false, _&&_}
-use mathlib.Core.List.{List, [], _∷_}
+use mathlib.Core.List.{List}
 use lib.ListN.{length, take}
 use lib.Dec.{leb}
 use Rattle.scan.specs.First.{pick}
@@ -30,26 +30,30 @@ use Rattle.scope_nil.specs.declared.HasNil.{HasNil}
 use Rattle.scope_nil.specs.declared.Standing.{Standing}
 use Rattle.scope_nil.specs.declared.Left.{Left}
 
--- The number of document 01 for each answer: 7 and 20 for the refusals, 98 and 99 for those of lent memory. A yes or a no is
--- no refusal, and has 0 with 1 or 0.
-unfoldable pub nilNumbers : Nil → List ℕ
-nilNumbers No = 0 ∷ 0 ∷ []
-nilNumbers Yes = 0 ∷ 1 ∷ []
-nilNumbers BadState = 7 ∷ []
-nilNumbers BadResolver = 20 ∷ []
-nilNumbers LendMore = 98 ∷ []
-nilNumbers WrongLength = 99 ∷ []
+-- Each answer by its number: 7 and 20 are document 01's, 98 and 99 those of lent memory. A yes and a no have none there, and are
+-- 1 and 0.
+abbrev pub nilNumber : Nil → ℕ
+nilNumber No = 0
+nilNumber Yes = 1
+nilNumber BadState = 7
+nilNumber BadResolver = 20
+nilNumber LendMore = 98
+nilNumber WrongLength = 99
 
 -- an answer, and the iterator that it leaves
 abbrev pub said : Nil → IterState → HasNil
 said a st = record { answer = a; state = st }
 
+-- An answer by its number, beside the iterator: what a call for users promises.
+abbrev pub numberedNil : HasNil → ℕ × IterState
+numberedNil h = (nilNumber (h .answer), h .state)
+
 -- the iterator of lent tables and what it has beside them, and what an answer leaves of it
 abbrev pub standsAt : Standing → (starts ends : List ℕ) → IterState
 standsAt at starts ends = lentState (at .place) (at .html) (at .checks) starts ends (at .count)
 
-abbrev pub leftBy : Standing → Left → (starts ends : List ℕ) → HasNil
-leftBy at r starts ends = said (r .answer) (lentState (r .place) (at .html) (at .checks) starts ends (r .count))
+abbrev pub nilLeftBy : Standing → Left → (starts ends : List ℕ) → HasNil
+nilLeftBy at r starts ends = said (r .answer) (lentState (r .place) (at .html) (at .checks) starts ends (r .count))
 
 -- an answer that leaves it where it stands
 abbrev pub unmovedBy : Nil → Standing → Left
@@ -98,7 +102,7 @@ hasNilOf s st x =
     (pick (stateGood s st) (searched x s st) (said BadState (nextOf s st .state)))
     (said BadResolver st)
 
--- Lent key tables may be shorter than the capacity: they are the iterator whose missing places are unused (attributes,
+-- Lent key tables may be shorter than the capacity: they are the iterator whose missing places are unused (tag_step,
 -- specs/Lent). What a search leaves of it, where the tables hold that; else LendMore, and nothing changes.
 unfoldable pub heldNil : IterState → HasNil → HasNil
 heldNil st h =

@@ -13,13 +13,14 @@ use tag_parts::Truth;
 use tag_step::Answer;
 use tag_step::IterState;
 use tag_step::Place;
+use tag_step::Stepped;
 ghost use mathlib.Core.Path.{_≡_};
 ghost use Prim.Native.Nat.{_≤_};
 ghost use lib.ListN.{length, take};
 ghost use Rattle.scan.specs.Lists.{over};
 ghost use Rattle.scope_table.specs.Table.{resolverOf};
 ghost use Rattle.scope_lookup.specs.Inside.{Inside};
-ghost use Rattle.scope_nil.specs.Nil.{isNil, searched, wholeSearch, hasNilOf, hasNilIn, standsAt, leftBy, unmovedBy, Searchable, Resting};
+ghost use Rattle.scope_nil.specs.Nil.{nilNumber, numberedNil, isNil, searched, wholeSearch, hasNilOf, hasNilIn, standsAt, nilLeftBy, unmovedBy, Searchable, Resting};
 
 // Whether a tag has a `nil` that is true: the crate's bool, and the refusals of what it is asked with.
 pub enum Nil {
@@ -35,6 +36,22 @@ pub enum Nil {
     LendMore,
     // 99: what the head says is in use is not lent, or more than a capacity is; nothing is changed
     WrongLength,
+}
+
+impl Nil {
+    // As a number, for an exported function, which hands out no enum.
+    pub fn number(self) -> usize
+        ensures { λ r. ⌜ r ≡ nilNumber self ⌝ }
+    {
+        match self {
+            Nil::No => 0,
+            Nil::Yes => 1,
+            Nil::BadState => 7,
+            Nil::BadResolver => 20,
+            Nil::LendMore => 98,
+            Nil::WrongLength => 99,
+        }
+    }
 }
 
 // The answer, and the iterator that it leaves: after the attribute that was a yes, or after the end.
@@ -95,7 +112,7 @@ fn search<'k, 't>(
     head: Head,
 ) -> Left
     requires { ⌜ Searchable (now tag) (standsAt at (now starts) (now ends)) × Inside (now records) (head .count) (length (now text)) ⌝ }
-    ensures { λ r. ⌜ leftBy at r (now (starts .exit)) (now (ends .exit))
+    ensures { λ r. ⌜ nilLeftBy at r (now (starts .exit)) (now (ends .exit))
         ≡ searched (resolverOf (now (text .entry)) (now (records .entry)) head) (now (tag .entry)) (standsAt at (now (starts .entry)) (now (ends .entry))) ⌝ }
 {
     let html = at.html;
@@ -103,7 +120,15 @@ fn search<'k, 't>(
     let mut stand = at.place;
     let mut recorded = at.count;
     loop {
-        let made = tag_step::step_lent(tag, starts, ends, html, checks, recorded, stand);
+        let step = tag_step::step_in(tag, starts, ends, html, checks, recorded, stand);
+        // Tables of full size have a place for every key: the other case never comes.
+        let Stepped::Made(made) = step else {
+            return Left {
+                answer: Nil::LendMore,
+                place: stand,
+                count: recorded,
+            };
+        };
         let answer = made.answer;
         stand = made.place;
         recorded = made.count;
@@ -150,7 +175,7 @@ fn search_short<'k, 't>(
     head: Head,
 ) -> Left
     requires { ⌜ Resting (now tag) (standsAt at (now starts) (now ends)) × Inside (now records) (head .count) (length (now text)) ⌝ }
-    ensures { λ r. ⌜ leftBy at r (now (starts .exit)) (now (ends .exit))
+    ensures { λ r. ⌜ nilLeftBy at r (now (starts .exit)) (now (ends .exit))
         ≡ wholeSearch (resolverOf (now (text .entry)) (now (records .entry)) head) (now (tag .entry)) (standsAt at (now (starts .entry)) (now (ends .entry))) ⌝ }
 {
     let n = starts.len();
@@ -191,7 +216,7 @@ pub fn has_nil_in<'k, 't>(
     records: &'t [usize],
     head: Head,
 ) -> Left
-    ensures { λ r. ⌜ leftBy at r (now (starts .exit)) (now (ends .exit))
+    ensures { λ r. ⌜ nilLeftBy at r (now (starts .exit)) (now (ends .exit))
         ≡ hasNilIn (now (tag .entry)) (standsAt at (now (starts .entry)) (now (ends .entry))) (now (text .entry)) (now (records .entry)) head ⌝ }
 {
     if CAPACITY < starts.len() {
@@ -227,7 +252,7 @@ pub fn has_nil_in<'k, 't>(
 
 // `Attributes::has_nil`, src/events/attributes.rs: whether an attribute from here on says that the element is nil.
 pub fn has_nil(state: IterState, tag: &[u8], resolver: NamespaceResolver) -> HasNil
-    ensures { λ r. ⌜ r ≡ hasNilOf (now (tag .entry)) state resolver ⌝ }
+    ensures { λ r. ⌜ numberedNil r ≡ numberedNil (hasNilOf (now (tag .entry)) state resolver) ⌝ }
 {
     let html = state.html;
     let checks = state.check_duplicates;

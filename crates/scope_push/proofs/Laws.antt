@@ -57,8 +57,8 @@ module _ (s : List ℕ) (from : ℕ) (t r : List ℕ) (h : Head) (good : Ready t
   begins =
       record {
         fits = good .fit;
-        small = good .table .bounds .few-bytes;
-        few = good .table .bounds .few-records;
+        small = good .table .small;
+        few = good .table .few;
         bytes = refl;
         numbers = refl;
         ahead = omega arith;

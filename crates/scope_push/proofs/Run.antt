@@ -8,13 +8,13 @@ use native.Mathlib.Omega.{arith}
 use lib.ListN.{length, take, drop, replicate, length-append}
 use lib.Seq.{take-append-le, drop-append-le}
 use Rattle.scan.specs.First.{pick}
-use Rattle.scan.specs.Lists.{over}
-use Rattle.scan.proofs.Lists.{over-length, take-of-over}
+use Rattle.scan.specs.Lists.{over, padTo}
+use Rattle.scan.proofs.Lists.{over-length, take-of-over, pad-take}
 use Rattle.scope_table.specs.Lists.{cut}
 use Rattle.scope_table.specs.Records.{rowAt, rowOf, bindingOf}
 use Rattle.scope_table.specs.Table.{TEXT, RECORDS, NUMBERS, headOf}
 use Rattle.scope_table.specs.Answer.{isDone, changed}
-use Rattle.scope_table.specs.Lent.{padTo, standsFor, holdsOf, fitsOf, Given, given, heldOf, lentOf}
+use Rattle.scope_table.specs.Lent.{standsFor, holdsOf, fitsOf, Given, given, heldOf, lentOf}
 use Rattle.scope_table.specs.declared.Head.{Head}
 use Rattle.scope_table.specs.declared.NamespaceResolver.{NamespaceResolver}
 use Rattle.scope_table.specs.declared.Changed.{Changed}
@@ -25,7 +25,7 @@ use Rattle.scope_change.specs.declared.Room.{Room}
 use Rattle.scope_declare.proofs.Laws.{isMore, declare-ways}
 use Rattle.scope_table.proofs.Lists.{and-left, and-right, and-take}
 use Rattle.scope_table.proofs.Rows.{rows-rise, rows-before, rows-within, row-fits}
-use Rattle.scope_table.proofs.Pad.{pad-take, pad-over, holds-within, holds-is}
+use Rattle.scope_table.proofs.Pad.{pad-over, holds-within, holds-is}
 use Rattle.scope_table.proofs.Calls.{unchanged, changes, lends-more}
 use Rattle.scope_push.specs.Push.{Declaration, declareOne, thenOf, declareAll}
 use Rattle.scope_push.specs.Run.{thenGiven, oneByOne}

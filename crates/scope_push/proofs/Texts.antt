@@ -10,13 +10,14 @@ use lib.ListN.{length, take, drop, getD, length-drop}
 use lib.Seq.{drop-drop}
 use borrow.Author.Tests.{leb-true, leb-false}
 use Rattle.scan.specs.First.{firstFrom}
-use Rattle.scan.specs.Bytes.{part, isByte, notSpace}
+use Rattle.scan.specs.Bytes.{part, isByte, notSpace, Marks}
+use Rattle.scan.proofs.Bytes.{inside-part}
 use Rattle.scan.proofs.Laws.{first, picks}
 use Rattle.scan.proofs.Lists.{part-is, part-length}
 use Rattle.name.specs.Bind.{reservedBind, refusedText}
 use Rattle.name.specs.Declares.{opening, isNamed, declaredPrefix}
-use Rattle.name.specs.declared.Declares.{Declares}
-use Rattle.name.specs.declared.Declares.the-variants.{Nothing, Default, Named}
+use Rattle.name.specs.declared.PrefixDeclaration.{PrefixDeclaration}
+use Rattle.name.specs.declared.PrefixDeclaration.the-variants.{Nothing, Default, Named}
 use Rattle.name.specs.declared.NamedCheck.{NamedCheck}
 use Rattle.name.specs.declared.NamedCheck.the-variants as Check
 use Rattle.tag_keys.specs.declared.Checked.{Checked}
@@ -34,7 +35,6 @@ use Rattle.tag_step.proofs.Whole.{StartIn, recover-in}
 use Rattle.tag_step.proofs.Ways.{value-ways, step-ways}
 use Rattle.tag_step.proofs.Run.{opened-answers}
 use Rattle.tag_parts.specs.Parts.{keyPart, valuePart}
-use Rattle.tag_parts.proofs.Parts.{span-inside}
 use Rattle.scope_table.specs.Table.{DEEPEST, validOf}
 use Rattle.scope_table.specs.Answer.{isDone}
 use Rattle.scope_table.specs.declared.NamespaceResolver.{NamespaceResolver}
@@ -42,11 +42,11 @@ use Rattle.scope_table.specs.declared.Changed.{Changed}
 use Rattle.scope_change.specs.Change.{whole}
 use Rattle.scope_change.specs.declared.Room.{Room}
 use Rattle.scope_declare.specs.Declare.{namedOf, judgeOf, settleOf, declareOf}
-use Rattle.scope_declare.specs.Texts.{Marks, HoldsText}
+use Rattle.scope_declare.specs.Texts.{HoldsText}
 use Rattle.scope_declare.specs.declared.Places.{Places}
 use Rattle.scope_declare.proofs.Texts.{append-none, declare-holds}
 use Rattle.scope_push.specs.Push.{Declaration, declarationOf, declarationThen, declarationsOf, tagAnswers, tagDeclarations, declareOne, thenOf, declareAll, raisedOf, pushOf}
-use Rattle.scope_push.specs.Texts.{isRefusal, checkBy, refusedIn}
+use Rattle.scope_push.specs.Texts.{refusesNamed, checkBy, refusedIn}
 
 -- The answers lie in the tag.
 
@@ -172,8 +172,8 @@ AllPlaced s (d ∷ more) = Placed s d × AllPlaced s more
 
 then-placed : (s : List ℕ) (a : Answer) (more : List Declaration) → In s a → AllPlaced s more → AllPlaced s (declarationThen s a more)
 unfolding declarationThen keyPart valuePart
-then-placed s (DoubleQ k v) more i p = (placed s _ _ k v (i .0) (i .1) (sym (span-inside s k (i .0 .ahead) (i .0 .inside))) (sym (span-inside s v (i .1 .ahead) (i .1 .inside))), p)
-then-placed s (SingleQ k v) more i p = (placed s _ _ k v (i .0) (i .1) (sym (span-inside s k (i .0 .ahead) (i .0 .inside))) (sym (span-inside s v (i .1 .ahead) (i .1 .inside))), p)
+then-placed s (DoubleQ k v) more i p = (placed s _ _ k v (i .0) (i .1) (inside-part s (k .start) (k .end) (i .0 .ahead) (i .0 .inside)) (inside-part s (v .start) (v .end) (i .1 .ahead) (i .1 .inside)), p)
+then-placed s (SingleQ k v) more i p = (placed s _ _ k v (i .0) (i .1) (inside-part s (k .start) (k .end) (i .0 .ahead) (i .0 .inside)) (inside-part s (v .start) (v .end) (i .1 .ahead) (i .1 .inside)), p)
 then-placed s (Unquoted k v) more i p = tt
 then-placed s (Empty k) more i p = tt
 then-placed s End more i p = tt
@@ -194,7 +194,7 @@ all-placed s (a ∷ more) i = then-placed s a (declarationsOf s more) (i .0) (al
 
 module _ (ps vs p v : List ℕ) (at : Places) (room : Room) (x : NamespaceResolver) where
   -- what the check passes holds no text
-  named-free : (k : NamedCheck) (text : List ℕ) → isRefusal k ≡ false → HoldsText ps vs (settleOf room (namedOf k p at) p v x .answer) text
+  named-free : (k : NamedCheck) (text : List ℕ) → refusesNamed k ≡ false → HoldsText ps vs (settleOf room (namedOf k p at) p v x .answer) text
   unfolding namedOf settleOf
   named-free Check.Fine text e = append-none ps vs text room x (take (length p) p) v
   named-free Check.AddsNothing text e = tt
@@ -203,13 +203,13 @@ module _ (ps vs p v : List ℕ) (at : Places) (room : Room) (x : NamespaceResolv
   named-free Check.InvalidPrefixForXml text e = absurd (false≢true (sym e))
   named-free Check.InvalidPrefixForXmlns text e = absurd (false≢true (sym e))
 
-  declare-free : (d : Declares) (text : List ℕ) → isRefusal (checkBy d p v) ≡ false → HoldsText ps vs (declareOf room d p v at x .answer) text
+  declare-free : (d : PrefixDeclaration) (text : List ℕ) → refusesNamed (checkBy d p v) ≡ false → HoldsText ps vs (declareOf room d p v at x .answer) text
   unfolding declareOf judgeOf settleOf
   declare-free Nothing text e = tt
   declare-free Default text e = append-none ps vs text room x (take 0 p) v
   declare-free Named text e = named-free (reservedBind p v) text e
 
-  named-stops : (k : NamedCheck) → isRefusal k ≡ true → isDone (settleOf room (namedOf k p at) p v x .answer) ≡ false
+  named-stops : (k : NamedCheck) → refusesNamed k ≡ true → isDone (settleOf room (namedOf k p at) p v x .answer) ≡ false
   unfolding namedOf settleOf
   named-stops Check.Fine e = absurd (false≢true e)
   named-stops Check.AddsNothing e = absurd (false≢true e)
@@ -219,13 +219,13 @@ module _ (ps vs p v : List ℕ) (at : Places) (room : Room) (x : NamespaceResolv
   named-stops Check.InvalidPrefixForXmlns e = refl
 
   -- what it refuses stops the call
-  declare-stops : (d : Declares) → isRefusal (checkBy d p v) ≡ true → isDone (declareOf room d p v at x .answer) ≡ false
+  declare-stops : (d : PrefixDeclaration) → refusesNamed (checkBy d p v) ≡ true → isDone (declareOf room d p v at x .answer) ≡ false
   unfolding declareOf judgeOf
   declare-stops Nothing e = absurd (false≢true e)
   declare-stops Default e = absurd (false≢true e)
   declare-stops Named e = named-stops (reservedBind p v) e
 
-  check-text : (d : Declares) → isRefusal (checkBy d p v) ≡ true → refusedText (reservedBind p v) p v ≡ refusedText (checkBy d p v) p v
+  check-text : (d : PrefixDeclaration) → refusesNamed (checkBy d p v) ≡ true → refusedText (reservedBind p v) p v ≡ refusedText (checkBy d p v) p v
   check-text Nothing e = absurd (false≢true e)
   check-text Default e = absurd (false≢true e)
   check-text Named e = refl
@@ -234,26 +234,26 @@ module _ (s : List ℕ) (room : Room) where
   abbrev Holds : List Declaration → Type 0
   Holds ds = (x : NamespaceResolver) → HoldsText s s (declareAll room ds x .answer) (refusedIn ds)
 
-  stop-holds : (d : Declaration) (ds : List Declaration) → Placed s d → (x : NamespaceResolver) → isRefusal (checkBy (d .kind) (d .prefix) (d .value)) ≡ true → HoldsText s s (declareAll room (d ∷ ds) x .answer) (refusedIn (d ∷ ds))
+  stop-holds : (d : Declaration) (ds : List Declaration) → Placed s d → (x : NamespaceResolver) → refusesNamed (checkBy (d .kind) (d .prefix) (d .value)) ≡ true → HoldsText s s (declareAll room (d ∷ ds) x .answer) (refusedIn (d ∷ ds))
   unfolding declareAll thenOf refusedIn
   stop-holds d ds i x e =
       let h = declare-holds s s (d .prefix) (d .value) (d .at) (i .prefix) (i .value) room x (d .kind) in
       rw (declare-stops s s (d .prefix) (d .value) (d .at) room x (d .kind) e, e)
       (subst (HoldsText s s (declareOne room d x .answer)) (check-text s s (d .prefix) (d .value) (d .at) room x (d .kind) e) h)
 
-  on-holds : (d : Declaration) (ds : List Declaration) → Holds ds → (x : NamespaceResolver) → isRefusal (checkBy (d .kind) (d .prefix) (d .value)) ≡ false → (t : Bool) → isDone (declareOne room d x .answer) ≡ t → HoldsText s s (declareAll room (d ∷ ds) x .answer) (refusedIn (d ∷ ds))
+  on-holds : (d : Declaration) (ds : List Declaration) → Holds ds → (x : NamespaceResolver) → refusesNamed (checkBy (d .kind) (d .prefix) (d .value)) ≡ false → (t : Bool) → isDone (declareOne room d x .answer) ≡ t → HoldsText s s (declareAll room (d ∷ ds) x .answer) (refusedIn (d ∷ ds))
   unfolding declareAll thenOf refusedIn
   on-holds d ds next x e true q = rw (q, e) (next (declareOne room d x .resolver))
   on-holds d ds next x e false q = rw (q, e) (declare-free s s (d .prefix) (d .value) (d .at) room x (d .kind) (refusedIn ds) e)
 
-  step-holds : (d : Declaration) (ds : List Declaration) → Placed s d → Holds ds → (x : NamespaceResolver) (t : Bool) → isRefusal (checkBy (d .kind) (d .prefix) (d .value)) ≡ t → HoldsText s s (declareAll room (d ∷ ds) x .answer) (refusedIn (d ∷ ds))
+  step-holds : (d : Declaration) (ds : List Declaration) → Placed s d → Holds ds → (x : NamespaceResolver) (t : Bool) → refusesNamed (checkBy (d .kind) (d .prefix) (d .value)) ≡ t → HoldsText s s (declareAll room (d ∷ ds) x .answer) (refusedIn (d ∷ ds))
   step-holds d ds i next x true e = stop-holds d ds i x e
   step-holds d ds i next x false e = on-holds d ds next x e (isDone (declareOne room d x .answer)) refl
 
   all-hold : (ds : List Declaration) → AllPlaced s ds → Holds ds
   unfolding declareAll
   all-hold [] i x = tt
-  all-hold (d ∷ ds) i x = step-holds d ds (i .0) (all-hold ds (i .1)) x (isRefusal (checkBy (d .kind) (d .prefix) (d .value))) refl
+  all-hold (d ∷ ds) i x = step-holds d ds (i .0) (all-hold ds (i .1)) x (refusesNamed (checkBy (d .kind) (d .prefix) (d .value))) refl
 
 -- `push`: what 12 to 15 hold is marked in the tag, and is what the first refused declaration is refused for.
 pub push-holds : (s : List ℕ) (from : ℕ) (x : NamespaceResolver) → HoldsText s s (pushOf s from x .answer) (refusedIn (tagDeclarations s from))

@@ -6,7 +6,7 @@ use mathlib.Core.List.{List, [], _∷_}
 use lib.ListN.{length}
 use lib.Dec.{leb}
 use Rattle.scan.specs.First.{pick}
-use Rattle.name.specs.declared.Declares.{Declares}
+use Rattle.name.specs.declared.PrefixDeclaration.{PrefixDeclaration}
 use Rattle.name.specs.Declares.{declaresOf, declaredPrefix}
 use Rattle.tag_step.specs.declared.Span.{Span}
 use Rattle.tag_step.specs.declared.Answer.{Answer}
@@ -26,7 +26,7 @@ use Rattle.scope_declare.specs.declared.Places.{Places}
 
 -- what a name declares, with its value, and where both stand in the tag
 pub record Declaration : Type 0 where
-  pub kind : Declares
+  pub kind : PrefixDeclaration
   pub prefix : List ℕ
   pub value : List ℕ
   pub at : Places

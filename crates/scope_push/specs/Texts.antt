@@ -4,23 +4,23 @@ use mathlib.Core.Bool.{Bool, true, false}
 use mathlib.Core.List.{List, [], _∷_}
 use Rattle.scan.specs.First.{pick}
 use Rattle.name.specs.Bind.{reservedBind, refusedText}
-use Rattle.name.specs.declared.Declares.{Declares}
-use Rattle.name.specs.declared.Declares.the-variants.{Nothing, Default, Named}
+use Rattle.name.specs.declared.PrefixDeclaration.{PrefixDeclaration}
+use Rattle.name.specs.declared.PrefixDeclaration.the-variants.{Nothing, Default, Named}
 use Rattle.name.specs.declared.NamedCheck.{NamedCheck}
 use Rattle.name.specs.declared.NamedCheck.the-variants as Check
 use Rattle.scope_push.specs.Push.{Declaration}
 
 -- the checks that refuse
-abbrev pub isRefusal : NamedCheck → Bool
-isRefusal Check.Fine = false
-isRefusal Check.AddsNothing = false
-isRefusal Check.InvalidXmlPrefixBind = true
-isRefusal Check.InvalidXmlnsPrefixBind = true
-isRefusal Check.InvalidPrefixForXml = true
-isRefusal Check.InvalidPrefixForXmlns = true
+abbrev pub refusesNamed : NamedCheck → Bool
+refusesNamed Check.Fine = false
+refusesNamed Check.AddsNothing = false
+refusesNamed Check.InvalidXmlPrefixBind = true
+refusesNamed Check.InvalidXmlnsPrefixBind = true
+refusesNamed Check.InvalidPrefixForXml = true
+refusesNamed Check.InvalidPrefixForXmlns = true
 
 -- Only a named prefix is checked.
-abbrev pub checkBy : Declares → (prefix value : List ℕ) → NamedCheck
+abbrev pub checkBy : PrefixDeclaration → (prefix value : List ℕ) → NamedCheck
 checkBy Nothing p v = Check.AddsNothing
 checkBy Default p v = Check.Fine
 checkBy Named p v = reservedBind p v
@@ -30,4 +30,4 @@ unfoldable pub refusedIn : List Declaration → List ℕ
 refusedIn [] = []
 refusedIn (d ∷ more) =
     let check = checkBy (d .kind) (d .prefix) (d .value) in
-    pick (isRefusal check) (refusedText check (d .prefix) (d .value)) (refusedIn more)
+    pick (refusesNamed check) (refusedText check (d .prefix) (d .value)) (refusedIn more)

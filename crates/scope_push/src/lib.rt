@@ -19,6 +19,7 @@ use tag_step::Place;
 use tag_step::Span;
 ghost use mathlib.Core.Path.{_≡_};
 ghost use lib.ListN.{length};
+ghost use Rattle.scope_table.specs.Answer.{numberedChange};
 ghost use Rattle.scope_table.specs.Lent.{given, lentOf};
 ghost use Rattle.scope_change.specs.Change.{whole};
 ghost use Rattle.scope_change.specs.Asked.{CanAppend};
@@ -125,28 +126,20 @@ pub fn push_in<'s>(
             };
         }
     }
-    let used = head.used;
-    let count = head.count;
-    let level = head.level;
-    let limit = head.limit;
-    if NamespaceResolver::DEEPEST <= level {
+    if NamespaceResolver::DEEPEST <= head.level {
         return Outcome {
             answer: NamespaceResult::TooDeeplyNested(NamespaceResolver::DEEPEST),
             head: head,
         };
     }
-    let raised = Head {
-        used: used,
-        count: count,
-        level: level + 1,
-        limit: limit,
-    };
+    let mut raised = head;
+    raised.level = head.level + 1;
     let out = take_all(text, records, raised, tag, from);
     let answer = out.answer;
     let NamespaceResult::LendMore = answer else {
         return out;
     };
-    scope_change::take_back(text, records, used, count);
+    scope_change::take_back(text, records, head.used, head.count);
     Outcome {
         answer: NamespaceResult::LendMore,
         head: head,
@@ -155,7 +148,7 @@ pub fn push_in<'s>(
 
 // `NamespaceResolver::push`, src/name.rs.
 pub fn push(r: NamespaceResolver, tag: &[u8], from: usize) -> Changed
-    ensures { λ c. ⌜ c ≡ pushOf (now (tag .entry)) from r ⌝ }
+    ensures { λ c. ⌜ numberedChange c ≡ numberedChange (pushOf (now (tag .entry)) from r) ⌝ }
 {
     let mut text = r.text;
     let mut records = r.records;

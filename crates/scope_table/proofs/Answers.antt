@@ -1,4 +1,5 @@
--- Answers: any case but the first is a refusal, and the numbers of document 01 tell all cases apart.
+-- Answers: any case but the first is a refusal, and the numbers of document 01 tell all cases apart; and so do those of the test
+-- of the form.
 use Prim.Native.Nat.{ℕ}
 use mathlib.Core.Path.{_≡_, refl, sym, ap, _∙_}
 use mathlib.Core.Bool.{Bool, true, false}
@@ -9,7 +10,11 @@ use denote.Enum.Declared.{tagOf}
 use borrow.Author.Tests.{eqb-false}
 use lib.Dec.{eqb}
 use Rattle.scan.specs.First.{pick}
-use Rattle.scope_table.specs.Answer.{changeNumbers, isDone}
+use Rattle.scope_table.specs.Answer.{changeNumbers, isDone, changed, numberedChange, formNumber}
+use Rattle.scope_table.specs.declared.Changed.{Changed}
+use Rattle.scope_table.specs.declared.NamespaceResolver.{NamespaceResolver}
+use Rattle.scope_table.specs.declared.Form.{Form}
+use Rattle.scope_table.specs.declared.Form.the-variants as Is
 use Rattle.scope_table.specs.declared.NamespaceResult.{NamespaceResult}
 use Rattle.scope_table.specs.declared.NamespaceResult.the-variants.{Done, InvalidXmlPrefixBind, InvalidXmlnsPrefixBind, InvalidPrefixForXml, InvalidPrefixForXmlns, TooManyBindings, TooDeeplyNested, BindingTableFull, TextFull, BadResolver, LendMore, WrongLength}
 use Rattle.scope_table.proofs.NamespaceResult as E
@@ -74,3 +79,23 @@ back WrongLength = refl
 -- answers with the same numbers are the same
 pub numbers-tell : (a b : NamespaceResult) → changeNumbers a ≡ changeNumbers b → a ≡ b
 numbers-tell a b e = sym (back a) ∙ ap read e ∙ back b
+
+-- and so are calls with the same numbers and the same resolver
+pub change-apart : (c d : Changed) → numberedChange c ≡ numberedChange d → c ≡ d
+change-apart c d e =
+    ap (λ (a : NamespaceResult). changed a (c .resolver)) (numbers-tell (c .answer) (d .answer) (ap (λ (x : List ℕ × NamespaceResolver). x .0) e))
+    ∙ ap (changed (d .answer)) (ap (λ (x : List ℕ × NamespaceResolver). x .1) e)
+
+-- The same of the test of the form.
+
+formBy : ℕ → Form
+formBy n = pick (eqb n 20) Is.Bad (pick (eqb n 99) Is.WrongLength Is.Good)
+
+form-back : (f : Form) → formBy (formNumber f) ≡ f
+unfolding formBy
+form-back Is.Good = refl
+form-back Is.Bad = refl
+form-back Is.WrongLength = refl
+
+pub form-apart : (f g : Form) → formNumber f ≡ formNumber g → f ≡ g
+form-apart f g e = sym (form-back f) ∙ ap formBy e ∙ form-back g

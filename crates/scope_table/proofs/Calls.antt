@@ -6,6 +6,7 @@ use mathlib.Core.Bool.{Bool, true, false}
 use mathlib.Core.List.{List}
 use lib.ListN.{length, take}
 use Rattle.scan.specs.First.{pick}
+use Rattle.scan.proofs.Lists.{pad-take}
 use Rattle.scope_table.specs.Table.{TEXT, NUMBERS, resolverOf, validOf}
 use Rattle.scope_table.specs.Answer.{changed}
 use Rattle.scope_table.specs.Lent.{standsFor, fitsOf, lent, given, heldOf, lentOf, formOf}
@@ -15,7 +16,6 @@ use Rattle.scope_table.specs.declared.Changed.{Changed}
 use Rattle.scope_table.specs.declared.NamespaceResult.{NamespaceResult}
 use Rattle.scope_table.specs.declared.NamespaceResult.the-variants.{BadResolver, LendMore, WrongLength}
 use Rattle.scope_table.specs.declared.Form.the-variants as Is
-use Rattle.scope_table.proofs.Pad.{pad-take}
 use Rattle.scope_table.proofs.Good.{Fits, Ready, is-wrong, is-bad, ready}
 
 module _ (text records : List ℕ) (head : Head) where

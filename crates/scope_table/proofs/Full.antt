@@ -9,15 +9,17 @@ use lib.Dec.{leb}
 use lib.ListN.{length, take}
 use lib.Seq.{take-all}
 use borrow.Author.Tests.{leb-true, leb-false, le-leb}
+use Rattle.scan.specs.Lists.{padTo}
+use Rattle.scan.proofs.Lists.{pad-full, pad-pad}
 use Rattle.scope_table.specs.Records.{rowAt}
 use Rattle.scope_table.specs.Table.{TEXT, NUMBERS, resolverOf}
 use Rattle.scope_table.specs.Answer.{changed}
-use Rattle.scope_table.specs.Lent.{padTo, standsFor, holdsOf, fitsOf, lent, given, heldOf, lentOf}
+use Rattle.scope_table.specs.Lent.{standsFor, holdsOf, fitsOf, lent, given, heldOf, lentOf}
 use Rattle.scope_table.specs.declared.Head.{Head}
 use Rattle.scope_table.specs.declared.NamespaceResolver.{NamespaceResolver}
 use Rattle.scope_table.specs.declared.Changed.{Changed}
 use Rattle.scope_table.proofs.Lists.{and-take}
-use Rattle.scope_table.proofs.Pad.{pad-full, pad-pad, holds-beyond, holds-is}
+use Rattle.scope_table.proofs.Pad.{holds-beyond, holds-is}
 use Rattle.scope_table.proofs.Calls.{asks, changes}
 
 -- memory of full size holds whatever a head says

@@ -9,7 +9,7 @@ use native.Mathlib.Nat.{eq-or-lt-of-le}
 use native.Mathlib.Omega.{arith}
 use lib.Dec.{eqb, leb}
 use lib.ListN.{length, take, drop}
-use borrow.Author.Tests.{eqb-true, leb-true}
+use borrow.Author.Tests.{eqb-true, leb-true, eq-eqb, le-leb}
 use Rattle.scan.specs.First.{pick}
 use Rattle.scan.specs.Bytes.{sameBytes}
 use Rattle.scope_table.specs.Lists.{allBelow, allZero}
@@ -21,8 +21,8 @@ use Rattle.scope_table.specs.declared.NamespaceBinding.{NamespaceBinding
 use Rattle.scope_table.specs.declared.NamespaceResolver.{NamespaceResolver}
 use Rattle.scope_table.specs.declared.Form as Found
 use Rattle.scope_table.specs.declared.Form.the-variants as Is
-use Rattle.scope_table.proofs.Lists.{and-left, and-right, all-at}
-use Rattle.scope_table.proofs.Turns.{text-next, text-grows, linked, risen}
+use Rattle.scope_table.proofs.Lists.{and-left, and-right, and-take, all-at, all-of}
+use Rattle.scope_table.proofs.Turns.{text-next, text-grows, linked, link-on, risen, rise-on}
 use Rattle.scope_table.proofs.Pad.{pad-table, holds-within, fits-rows}
 
 -- Counts and level within the capacity.
@@ -45,15 +45,19 @@ within used count level e =
 pub within-rows : (bytes numbers used count level : ℕ) → fitsOf bytes numbers used count ≡ true → isWithin used count level ≡ true → rowAt count ≤ numbers
 within-rows bytes numbers used count level f e = fits-rows bytes numbers used count (within used count level e .few-records) f
 
--- A table that refusal 20 passes.
+-- All that refusal 20 asks of a table, one by one.
 pub record Formed (text records : List ℕ) (head : Head) : Type 0 where
-  pub bounds : Within (head .used) (head .count) (head .level)
+  pub small : head .used ≤ TEXT
+  pub few : head .count ≤ RECORDS
+  pub deep : head .level ≤ DEEPEST
   pub two : 2 ≤ head .count
-  pub begins : sameBytes (take 73 text) builtIn ≡ true
+  pub opening : sameBytes (take 73 text) builtIn ≡ true
+  pub xml : isRecord (recordAt records 0) 3 36 0 ≡ true
+  pub xmlns : isRecord (recordAt records 1) 5 29 0 ≡ true
   pub links : (k : ℕ) → k < head .count → recordAt records k .start ≡ textOf (recordAt records) k
   pub ends : textOf (recordAt records) (head .count) ≡ head .used
   pub rises : (k : ℕ) → k < head .count → levelBefore (recordAt records) k ≤ recordAt records k .level
-  pub tops : (k : ℕ) → k < head .count → recordAt records k .level ≤ head .level
+  pub top : (k : ℕ) → k < head .count → recordAt records k .level ≤ head .level
   pub rest-text : allZero (drop (head .used) text) ≡ true
   pub rest-records : allZero (drop (rowAt (head .count)) records) ≡ true
 
@@ -61,8 +65,10 @@ pub formed : (text records : List ℕ) (head : Head) → isTable text records he
 unfolding isTable opensBuiltIn isChain isRising isClear
 formed text records head e =
     let rows = recordAt records in
+    let w = within (head .used) (head .count) (head .level) (and-left (isWithin (head .used) (head .count) (head .level)) _ e) in
     let e₁ = and-right (isWithin (head .used) (head .count) (head .level)) _ e in
-    let opens = and-left (opensBuiltIn text rows (head .count)) _ e₁ in
+    let opens = and-right (leb 2 (head .count)) _ (and-left (opensBuiltIn text rows (head .count)) _ e₁) in
+    let built = and-right (sameBytes (take 73 text) builtIn) _ opens in
     let e₂ = and-right (opensBuiltIn text rows (head .count)) _ e₁ in
     let chain = and-left (isChain rows (head .used) (head .count)) _ e₂ in
     let e₃ = and-right (isChain rows (head .used) (head .count)) _ e₂ in
@@ -71,20 +77,41 @@ formed text records head e =
     let link : ℕ → Bool = linked rows (head .used) (head .count) in
     let rise : ℕ → Bool = risen rows (head .count) (head .level) in
     record {
-      bounds = within (head .used) (head .count) (head .level) (and-left (isWithin (head .used) (head .count) (head .level)) _ e);
-      two = leb-true 2 (head .count) (and-left (leb 2 (head .count)) _ opens);
-      begins = and-left (sameBytes (take 73 text) builtIn) _ (and-right (leb 2 (head .count)) _ opens);
+      small = w .few-bytes;
+      few = w .few-records;
+      deep = w .low;
+      two = leb-true 2 (head .count) (and-left (leb 2 (head .count)) _ (and-left (opensBuiltIn text rows (head .count)) _ e₁));
+      opening = and-left (sameBytes (take 73 text) builtIn) _ opens;
+      xml = and-left (isRecord (rows 0) 3 36 0) _ built;
+      xmlns = and-right (isRecord (rows 0) 3 36 0) _ built;
       links = λ k l. eqb-true _ _ (all-at link (head .count) k (and-left (allBelow link (head .count)) _ chain) l);
       ends = eqb-true _ _ (and-right (allBelow link (head .count)) _ chain);
       rises = λ k l. leb-true _ _ (and-left (leb (levelBefore rows k) (rows k .level)) _ (all-at rise (head .count) k rising l));
-      tops = λ k l. leb-true _ _ (and-right (leb (levelBefore rows k) (rows k .level)) _ (all-at rise (head .count) k rising l));
+      top = λ k l. leb-true _ _ (and-right (leb (levelBefore rows k) (rows k .level)) _ (all-at rise (head .count) k rising l));
       rest-text = and-left (allZero (drop (head .used) text)) _ clear;
       rest-records = and-right (allZero (drop (head .used) text)) _ clear;
     }
 
-pub formed-valid : (x : NamespaceResolver) → validOf x ≡ true → Formed (x .text) (x .records) (x .head)
-unfolding validOf
-formed-valid x e = formed (x .text) (x .records) (x .head) e
+-- the same of a resolver
+abbrev pub Shaped : NamespaceResolver → Type 0
+Shaped x = Formed (x .text) (x .records) (x .head)
+
+module _ (x : NamespaceResolver) where
+  pub form-of : validOf x ≡ true → Shaped x
+  unfolding validOf
+  form-of e = formed (x .text) (x .records) (x .head) e
+
+  -- and what has all of it is not refused
+  pub valid-of : Shaped x → validOf x ≡ true
+  unfolding validOf isTable isWithin opensBuiltIn isChain isRising isClear
+  valid-of f =
+      let rows = recordAt (x .records) in
+      let h = x .head in
+      and-take (and-take (le-leb _ _ (f .small)) (and-take (le-leb _ _ (f .few)) (le-leb _ _ (f .deep))))
+      (and-take (and-take (le-leb _ _ (f .two)) (and-take (f .opening) (and-take (f .xml) (f .xmlns))))
+      (and-take (and-take (all-of (linked rows (h .used) (h .count)) (h .count) (λ k l. link-on rows (h .used) (h .count) k (rows k) refl (f .links k l))) (eq-eqb _ _ (f .ends)))
+      (and-take (all-of (risen rows (h .count) (h .level)) (h .count) (λ k l. rise-on rows (h .count) (h .level) k (rows k) refl (f .rises k l) (f .top k l)))
+      (and-take (f .rest-text) (f .rest-records)))))
 
 module _ (text records : List ℕ) (head : Head) (ok : Formed text records head) where
   -- a record's text ends where the next one's starts
@@ -179,8 +206,8 @@ module _ (text records : List ℕ) (head : Head) where
   unfolding fitsOf
   ready-by f v =
       let t = formed text records head (sym valid-lent ∙ v) in
-      let b = holds-within TEXT (length text) (head .used) (t .bounds .few-bytes) (and-left (holdsOf TEXT (length text) (head .used)) _ f) in
-      let m : rowAt (head .count) ≤ NUMBERS = omega (arith, t .bounds .few-records) in
+      let b = holds-within TEXT (length text) (head .used) (t .small) (and-left (holdsOf TEXT (length text) (head .used)) _ f) in
+      let m : rowAt (head .count) ≤ NUMBERS = omega (arith, t .few) in
       let n = holds-within NUMBERS (length records) (rowAt (head .count)) m (and-right (holdsOf TEXT (length text) (head .used)) _ f) in
       record { fit = f; valid = v; table = t; bytes-most = b .0; bytes-lent = b .1; numbers-most = n .0; rows-lent = n .1 }
 

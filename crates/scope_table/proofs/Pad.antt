@@ -7,60 +7,25 @@ use mathlib.Core.List.{List, [], _∷_, _++_, append-assoc}
 use native.Mathlib.Omega.{arith}
 use lib.Dec.{eqb, leb, ltb}
 use borrow.Author.Tests.{leb-true, leb-false, eqb-false, le-leb, lt-leb, lt-ltb, le-ltb}
-use lib.ListN.{length, take, drop, getD, replicate, length-append, length-replicate, replicate-append-replicate, List·getD-eq-default}
-use lib.Seq.{take-at, take-all, take-append-le, drop-append-le, getD-take}
+use lib.ListN.{length, take, drop, getD, replicate, replicate-append-replicate, List·getD-eq-default}
+use lib.Seq.{take-at, take-append-le, drop-append-le, getD-take}
 use Rattle.scan.specs.Bytes.{bytes, bytesFrom, sameBytes}
-use Rattle.scan.specs.Lists.{over}
+use Rattle.scan.specs.Lists.{over, padTo}
 use Rattle.scan.proofs.Bytes.{same-ne}
-use Rattle.scan.proofs.Lists.{length-over}
+use Rattle.scan.proofs.Lists.{length-over, pad-at, pad-length}
 use Rattle.scope_table.specs.Lists.{allZero, cut}
 use Rattle.scope_table.specs.Records.{rowAt, recordAt}
 use Rattle.scope_table.specs.Table.{TEXT, RECORDS, NUMBERS, builtIn, opensBuiltIn, isClear, isTable}
-use Rattle.scope_table.specs.Lent.{padTo, holdsOf, fitsOf}
+use Rattle.scope_table.specs.Lent.{holdsOf, fitsOf}
 use Rattle.scope_table.specs.declared.Head.{Head}
 use Rattle.scope_table.specs.declared.NamespaceBinding.{NamespaceBinding}
 use Rattle.scope_table.proofs.Lists.{and-left, and-right, and-take, cut-length}
 
 -- What is read.
 
-zero-at : (m i : ℕ) → _≡_ {A = ℕ} (getD (replicate m 0) i 0) 0
-zero-at zero i = refl
-zero-at (suc m) zero = refl
-zero-at (suc m) (suc i) = zero-at m i
-
-after-at : (xs : List ℕ) (m i : ℕ) → getD (xs ++ replicate m 0) i 0 ≡ getD xs i 0
-after-at [] m i = zero-at m i
-after-at (x ∷ xs) m zero = refl
-after-at (x ∷ xs) m (suc i) = after-at xs m i
-
--- at a place
-pub pad-at : (n : ℕ) (xs : List ℕ) (i : ℕ) → getD (padTo n xs) i 0 ≡ getD xs i 0
-unfolding padTo
-pad-at n xs i = after-at xs (n - length xs) i
-
--- and so of each record
+-- of each record
 pub pad-records : (n : ℕ) (xs : List ℕ) → recordAt (padTo n xs) ≡ recordAt xs
 pad-records n xs = fun-ext (λ i. rw (pad-at n xs (rowAt i), pad-at n xs (rowAt i + 1), pad-at n xs (rowAt i + 2), pad-at n xs (rowAt i + 3)))
-
-pub pad-length : (n : ℕ) (xs : List ℕ) → length xs ≤ n → length (padTo n xs) ≡ n
-unfolding padTo
-pad-length n xs h = simp (length-append, length-replicate) (omega arith)
-
-pub pad-take : (n : ℕ) (xs : List ℕ) → take (length xs) (padTo n xs) ≡ xs
-unfolding padTo
-pad-take n xs = take-at xs (replicate (n - length xs) 0) (length xs) refl
-
--- memory of full size is what it stands for
-pub pad-full : (n : ℕ) (xs : List ℕ) → length xs ≡ n → padTo n xs ≡ xs
-pad-full n xs e = sym (take-all (length xs) (padTo n xs) (omega (arith, pad-length n xs (omega arith)))) ∙ pad-take n xs
-
--- zeros after zeros
-pub pad-pad : (m n : ℕ) (xs : List ℕ) → length xs ≤ m → m ≤ n → padTo n (padTo m xs) ≡ padTo n xs
-unfolding padTo
-pad-pad m n xs h k =
-    let q : n - length (xs ++ replicate {A = ℕ} (m - length xs) 0) ≡ n - m = omega (arith, pad-length m xs h) in
-    let s : (m - length xs) + (n - m) ≡ n - length xs = omega arith in
-    rw (q, append-assoc xs (replicate {A = ℕ} (m - length xs) 0) (replicate {A = ℕ} (n - m) 0), replicate-append-replicate {A = ℕ} (m - length xs) (n - m) 0, s)
 
 -- The test for zeros.
 

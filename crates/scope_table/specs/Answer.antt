@@ -1,9 +1,12 @@
--- What a call that changes a resolver answers, by numbers, and with the resolver that it leaves.
+-- What a call answers, by numbers: one that changes a resolver, with the resolver that it leaves; and the test that each call
+-- makes first.
 use Prim.Native.Nat.{ℕ}
 use mathlib.Core.Bool.{Bool, true, false}
 use mathlib.Core.List.{List, [], _∷_}
 use lib.ListN.{getD}
 use Rattle.scope_table.specs.declared.Told.{Told}
+use Rattle.scope_table.specs.declared.Form.{Form}
+use Rattle.scope_table.specs.declared.Form.the-variants as Is
 use Rattle.scope_table.specs.declared.NamespaceResolver.{NamespaceResolver}
 use Rattle.scope_table.specs.declared.Changed.{Changed}
 use Rattle.scope_table.specs.declared.NamespaceResult.{NamespaceResult}
@@ -47,3 +50,13 @@ isDone WrongLength = false
 
 abbrev pub changed : NamespaceResult → NamespaceResolver → Changed
 changed a x = record { answer = a; resolver = x }
+
+-- An answer by its numbers, beside the resolver that it leaves: what a call for users promises.
+abbrev pub numberedChange : Changed → List ℕ × NamespaceResolver
+numberedChange c = (changeNumbers (c .answer), c .resolver)
+
+-- The test of the form: 20 is document 01's number, and 99 that of lent memory. A resolver of the right form has none, and is 0.
+abbrev pub formNumber : Form → ℕ
+formNumber Is.Good = 0
+formNumber Is.Bad = 20
+formNumber Is.WrongLength = 99

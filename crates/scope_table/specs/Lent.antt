@@ -1,11 +1,12 @@
 -- Lent memory that may be shorter than the capacity: it is the resolver whose missing places are unused and zero. Every rule
 -- is that resolver's; lent memory has two answers of its own, and both leave everything as it was.
-use Prim.Native.Nat.{ℕ, _-_}
+use Prim.Native.Nat.{ℕ}
 use mathlib.Core.Bool.{Bool, _&&_, _||_}
-use mathlib.Core.List.{List, _++_}
-use lib.ListN.{length, take, replicate}
+use mathlib.Core.List.{List}
+use lib.ListN.{length, take}
 use lib.Dec.{leb, ltb}
 use Rattle.scan.specs.First.{pick}
+use Rattle.scan.specs.Lists.{padTo}
 use Rattle.scope_table.specs.Records.{rowAt}
 use Rattle.scope_table.specs.Table.{TEXT, NUMBERS, resolverOf, validOf, freshOf}
 use Rattle.scope_table.specs.Answer.{changed}
@@ -16,10 +17,6 @@ use Rattle.scope_table.specs.declared.NamespaceResult.{NamespaceResult}
 use Rattle.scope_table.specs.declared.NamespaceResult.the-variants.{Done, LendMore, WrongLength}
 use Rattle.scope_table.specs.declared.Form as Found
 use Rattle.scope_table.specs.declared.Form.the-variants as Is
-
--- xs with zeros after it, up to n places
-unfoldable pub padTo : ℕ → List ℕ → List ℕ
-padTo n xs = xs ++ replicate (n - length xs) 0
 
 -- the resolver that lent memory stands for
 abbrev pub standsFor : (text records : List ℕ) → Head → NamespaceResolver

@@ -25,7 +25,7 @@ ghost use Rattle.scan.specs.Lists.{over};
 ghost use Rattle.scope_table.specs.Lists.{allZero, cut};
 ghost use Rattle.scope_table.specs.Records.{rowAt, recordAt, rowOf, valueStart, valueEnd, prefixIn};
 ghost use Rattle.scope_table.specs.Table.{TEXT, RECORDS, NUMBERS, builtIn, builtInRows, isRecord, opensBuiltIn, isChain, isRising, isWithin, isTable, validOf, freshOf};
-ghost use Rattle.scope_table.specs.Answer.{changeNumbers, toldOf};
+ghost use Rattle.scope_table.specs.Answer.{changeNumbers, formNumber, toldOf};
 ghost use Rattle.scope_table.specs.Lent.{holdsOf, fitsOf, given, freshIn, formOf};
 
 // The two arrays of a resolver: its text, and its records as numbers.
@@ -109,6 +109,19 @@ pub enum Form {
     Good,
     Bad,
     WrongLength,
+}
+
+impl Form {
+    // As a number, for a call that answers no more than this.
+    pub fn number(self) -> usize
+        ensures { λ r. ⌜ r ≡ formNumber self ⌝ }
+    {
+        match self {
+            Form::Good => 0,
+            Form::Bad => 20,
+            Form::WrongLength => 99,
+        }
+    }
 }
 
 // An answer as numbers, for a function that can hand out no enum: its number, and its values, 0 where it has none.

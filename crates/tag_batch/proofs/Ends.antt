@@ -19,14 +19,14 @@ use Rattle.tag_step.specs.declared.Answer.{Answer}
 use Rattle.tag_step.specs.declared.Answer.the-variants.{End, BadState}
 use Rattle.tag_step.specs.declared.IterState.{IterState}
 use Rattle.tag_step.specs.Read.{found, recoverOf}
-use Rattle.tag_step.specs.Next.{reading, lent, placeGood, stateGood, stepOf, stepFrom, keysOf, lentState}
+use Rattle.tag_step.specs.Next.{reading, keysLent, placeGood, stateGood, stepOf, stepFrom, keysOf, lentState}
 use Rattle.tag_step.specs.Lent.{wholeNext, needsMore, steppedOf}
 use Rattle.tag_step.specs.Run.{isEnd}
 use Rattle.tag_step.proofs.Lent.{bad-answer, bad-needs, bad-leaves, good-answer, good-needs, good-leaves}
 use Rattle.tag_batch.specs.declared.Why.{Why}
 use Rattle.tag_batch.specs.declared.Why.the-variants.{OutFull, AtEnd}
 use Rattle.tag_batch.specs.declared.Batch.the-variants.{Read, WrongTables}
-use Rattle.tag_batch.specs.Batch.{fiveOf, fivesOf, Ran, ran, ahead, ranOf, tablesLent, roomOf, Batched, batched, shownOf, readOf, batchOf}
+use Rattle.tag_batch.specs.Batch.{fiveOf, fivesOf, Ran, ran, ahead, ranOf, tablesLent, answersRoom, Batched, batched, batchShown, readOf, batchOf}
 
 module _ (s : List ℕ) (st : IterState) (out : List ℕ) where
   -- Tables of more places than there can be keys.
@@ -49,12 +49,12 @@ module _ (s : List ℕ) (st : IterState) (out : List ℕ) where
 
       -- An output that holds no answer: nothing is written and nothing moves.
 
-      room-zero : length out < 5 → roomOf out ≡ 0
-      unfolding roomOf
+      room-zero : length out < 5 → answersRoom out ≡ 0
+      unfolding answersRoom
       room-zero h = omega arith
 
       pub read-none : length out < 5 → batched (Read 0 (st .place) (st .count) OutFull) (st .starts) (st .ends) out ≡ batchOf s st out
-      unfolding readOf shownOf ranOf fivesOf
+      unfolding readOf batchShown ranOf fivesOf
       read-none h = sym (sym lent-read ∙ rw (room-zero h, over-none out 0))
 
 -- From done nothing moves.
@@ -67,14 +67,14 @@ module _ (s : List ℕ) (html checks : Bool) (starts ends : List ℕ) (ls : leng
   unfolding stateGood placeGood
   ended-good = rw (in-table (length s) starts ends 0 (keys-none starts ends (length s)))
 
-  ended-step : reading (found End Done) (lent starts ends 0) ≡ stepOf s html checks (keysOf ended) Done
+  ended-step : reading (found End Done) (keysLent starts ends 0) ≡ stepOf s html checks (keysOf ended) Done
   unfolding stepOf stepFrom recoverOf keysOf
   ended-step = refl
 
   ended-ran : (n : ℕ) → ranOf (suc n) s ended ≡ ran [] ended AtEnd
   unfolding ranOf isEnd
   ended-ran n =
-      let x = reading (found End Done) (lent starts ends 0) in
+      let x = reading (found End Done) (keysLent starts ends 0) in
       rw (good-needs s ended ls le ended-good x ended-step, le-leb 0 (length starts) (omega arith), le-leb 0 (length ends) (omega arith), good-answer s ended ls le ended-good x ended-step, good-leaves s ended ls le ended-good x ended-step)
 
 -- Refusal 7: one answer, and no recorded keys; then the end.
@@ -93,19 +93,19 @@ module _ (s : List ℕ) (st : IterState) (out : List ℕ) (ls : length (st .star
   short-ends : length (replicate {A = ℕ} (length (st .ends)) 0) ≤ capacity
   short-ends = omega (arith, length-replicate {A = ℕ} (length (st .ends)) 0)
 
-  rest : (n : ℕ) → roomOf out ≡ suc n → ranOf n s after ≡ ran [] after (pick (ltb (length out) 10) OutFull AtEnd)
-  unfolding roomOf ranOf
+  rest : (n : ℕ) → answersRoom out ≡ suc n → ranOf n s after ≡ ran [] after (pick (ltb (length out) 10) OutFull AtEnd)
+  unfolding answersRoom ranOf
   rest zero h = rw (lt-ltb (length out) 10 (omega arith))
   rest (suc n) h = ended-ran s (st .html) (st .«check_duplicates») (replicate (length (st .starts)) 0) (replicate (length (st .ends)) 0) short short-ends n ∙ rw (le-ltb (length out) 10 (omega arith))
 
-  room-some : roomOf out ≡ suc (roomOf out - 1)
-  unfolding roomOf
+  room-some : answersRoom out ≡ suc (answersRoom out - 1)
+  unfolding answersRoom
   room-some = omega arith
 
-  bad-is : (n : ℕ) → roomOf out ≡ suc n → readOf s st out ≡ batched (Read 1 Done 0 (pick (ltb (length out) 10) OutFull AtEnd)) (replicate (length (st .starts)) 0) (replicate (length (st .ends)) 0) (over out 0 (fiveOf BadState))
-  unfolding readOf shownOf fivesOf
+  bad-is : (n : ℕ) → answersRoom out ≡ suc n → readOf s st out ≡ batched (Read 1 Done 0 (pick (ltb (length out) 10) OutFull AtEnd)) (replicate (length (st .starts)) 0) (replicate (length (st .ends)) 0) (over out 0 (fiveOf BadState))
+  unfolding readOf batchShown fivesOf
   bad-is n e = rw (e, bad-ran n, rest n e, append-nil (fiveOf BadState))
 
   pub read-bad : (starts ends out' : List ℕ) (why : Why) → starts ≡ replicate (length (st .starts)) 0 → ends ≡ replicate (length (st .ends)) 0 → out' ≡ over out 0 (fiveOf BadState) → why ≡ pick (ltb (length out') 10) OutFull AtEnd → length out' ≡ length out → batched (Read 1 Done 0 why) starts ends out' ≡ batchOf s st out
   read-bad starts ends out' why es ee eo ew size =
-      rw (es, ee, ew, size, eo) (sym (sym (lent-read s st out ls le) ∙ bad-is (roomOf out - 1) room-some))
+      rw (es, ee, ew, size, eo) (sym (sym (lent-read s st out ls le) ∙ bad-is (answersRoom out - 1) room-some))

@@ -20,7 +20,7 @@ use Rattle.tag_step.proofs.Lent.{full-next, full-held, full-leaves}
 use Rattle.tag_batch.specs.declared.Batch.the-variants.{Read}
 use Rattle.tag_batch.specs.declared.Why.{Why}
 use Rattle.tag_batch.specs.declared.Why.the-variants.{OutFull, AtEnd, LendMore}
-use Rattle.tag_batch.specs.Batch.{fivesOf, leftOf, Ran, ran, ahead, ranOf, tablesLent, roomOf, Batched, batched, shownOf, readOf, batchOf}
+use Rattle.tag_batch.specs.Batch.{fivesOf, leftOf, Ran, ran, ahead, ranOf, tablesLent, answersRoom, Batched, batched, batchShown, readOf, batchOf}
 
 -- one step
 full-step : (n : ℕ) (s : List ℕ) (st : IterState) → Sized st → ranOf (suc n) s st ≡ pick (isEnd (nextOf s st .answer)) (ran [] (nextOf s st .state) AtEnd) (ahead (nextOf s st .answer) (ranOf n s (nextOf s st .state)))
@@ -68,7 +68,7 @@ full-never (suc n) s st z e =
 
 -- So a batch on such tables is the run's.
 pub full-batch : (s : List ℕ) (st : IterState) (out : List ℕ) → Sized st →
-    batchOf s st out ≡ batched (Read (length (runOf (roomOf out) s st)) (leftOf (roomOf out) s st .place) (leftOf (roomOf out) s st .count) (ranOf (roomOf out) s st .why)) (leftOf (roomOf out) s st .starts) (leftOf (roomOf out) s st .ends) (over out 0 (fivesOf (runOf (roomOf out) s st)))
-unfolding batchOf tablesLent readOf shownOf
+    batchOf s st out ≡ batched (Read (length (runOf (answersRoom out) s st)) (leftOf (answersRoom out) s st .place) (leftOf (answersRoom out) s st .count) (ranOf (answersRoom out) s st .why)) (leftOf (answersRoom out) s st .starts) (leftOf (answersRoom out) s st .ends) (over out 0 (fivesOf (runOf (answersRoom out) s st)))
+unfolding batchOf tablesLent readOf batchShown
 full-batch s st out z =
-    rw (le-leb (length (st .starts)) capacity (omega (arith, z .starts)), le-leb (length (st .ends)) capacity (omega (arith, z .ends)), full-answers (roomOf out) s st z, full-state (roomOf out) s st z)
+    rw (le-leb (length (st .starts)) capacity (omega (arith, z .starts)), le-leb (length (st .ends)) capacity (omega (arith, z .ends)), full-answers (answersRoom out) s st z, full-state (answersRoom out) s st z)

@@ -16,17 +16,17 @@ use Rattle.tag_step.specs.declared.IterState.{IterState}
 use Rattle.tag_step.specs.Numbers.{numbersOf}
 use Rattle.tag_step.specs.Run.{isEnd}
 use Rattle.tag_step.specs.declared.Place.{Place}
-use Rattle.tag_step.specs.declared.Outcome.{Outcome}
+use Rattle.tag_step.specs.declared.Advance.{Advance}
 use Rattle.tag_step.specs.declared.Stepped.{Stepped}
 use Rattle.tag_step.specs.declared.Stepped.the-variants as Stop
-use Rattle.tag_step.specs.Next.{lent, stepOf, lentState}
+use Rattle.tag_step.specs.Next.{keysLent, stepOf, lentState}
 use Rattle.tag_step.specs.Lent.{wholeNext, needsMore, steppedOf, taken, takenOn}
 use Rattle.tag_step.proofs.Lent.{made-held, made-answer, made-leaves, made-good, made-starts, made-ends, more-needs, more-starts, more-ends}
 use Rattle.tag_batch.specs.declared.Five.{Five}
 use Rattle.tag_batch.specs.declared.Batch.the-variants.{Read}
 use Rattle.tag_batch.specs.declared.Why.{Why}
 use Rattle.tag_batch.specs.declared.Why.the-variants.{OutFull, AtEnd, LendMore}
-use Rattle.tag_batch.specs.Batch.{fiveOf, listed, fivesOf, Ran, ran, ahead, ranOf, roomOf, Batched, batched, shownOf, readOf, Ripe}
+use Rattle.tag_batch.specs.Batch.{fiveOf, listed, fivesOf, Ran, ran, ahead, ranOf, answersRoom, Batched, batched, batchShown, readOf, Ripe}
 
 -- every answer is five numbers
 pub five-length : (a : Answer) → length (fiveOf a) ≡ 5
@@ -92,28 +92,28 @@ shown-next n out a x room =
 pub record Turn (s : List ℕ) (first : IterState) (whole : List ℕ) (n : ℕ) (st : IterState) (out : List ℕ) : Type 0 where
   pub ripe : Ripe s st
   pub size : length out ≡ length whole
-  pub fits : n ≤ roomOf whole
-  pub same : readOf s first whole ≡ shownFrom n out (ranOf (roomOf whole - n) s st)
+  pub fits : n ≤ answersRoom whole
+  pub same : readOf s first whole ≡ shownFrom n out (ranOf (answersRoom whole - n) s st)
 
 pub turn-first : (s : List ℕ) (st : IterState) (out : List ℕ) → Ripe s st → Turn s st out 0 st out
-unfolding readOf shownOf
+unfolding readOf batchShown
 turn-first s st out r =
-    let e : roomOf out - 0 ≡ roomOf out = omega arith in
+    let e : answersRoom out - 0 ≡ answersRoom out = omega arith in
     let z : 5 * 0 ≡ 0 = omega arith in
-    let m : 0 + length (ranOf (roomOf out) s st .answers) ≡ length (ranOf (roomOf out) s st .answers) = omega arith in
+    let m : 0 + length (ranOf (answersRoom out) s st .answers) ≡ length (ranOf (answersRoom out) s st .answers) = omega arith in
     record { ripe = r; size = refl; fits = omega arith; same = rw (e, z, m) }
 
 -- room for an answer, and none
-room-more : (out : List ℕ) (n : ℕ) → 5 * n + 5 ≤ length out → n < roomOf out
-unfolding roomOf
+room-more : (out : List ℕ) (n : ℕ) → 5 * n + 5 ≤ length out → n < answersRoom out
+unfolding answersRoom
 room-more out n h = omega arith
 
-pub room-fits : (out : List ℕ) (n : ℕ) → n ≤ roomOf out → 5 * n ≤ length out
-unfolding roomOf
+pub room-fits : (out : List ℕ) (n : ℕ) → n ≤ answersRoom out → 5 * n ≤ length out
+unfolding answersRoom
 room-fits out n h = omega arith
 
-room-none : (out : List ℕ) (n : ℕ) → length out < 5 * n + 5 → n ≤ roomOf out → roomOf out - n ≡ 0
-unfolding roomOf
+room-none : (out : List ℕ) (n : ℕ) → length out < 5 * n + 5 → n ≤ answersRoom out → answersRoom out - n ≡ 0
+unfolding answersRoom
 room-none out n h l = omega arith
 
 -- a step
@@ -134,20 +134,20 @@ module _ (s : List ℕ) (st : IterState) (m : ℕ) where
 module _ (s : List ℕ) (first : IterState) (whole : List ℕ) (n : ℕ) (st : IterState) (out : List ℕ) (t : Turn s first whole n st out) where
   -- there is room for one answer more
   module _ (room : 5 * n + 5 ≤ length out) where
-    more : roomOf whole - n ≡ suc (roomOf whole - (n + 1))
+    more : answersRoom whole - n ≡ suc (answersRoom whole - (n + 1))
     more = omega (arith, room-more whole n (omega (arith, t .size)))
 
-    went : (x : Ran) → ranOf (suc (roomOf whole - (n + 1))) s st ≡ x → readOf s first whole ≡ shownFrom n out x
+    went : (x : Ran) → ranOf (suc (answersRoom whole - (n + 1))) s st ≡ x → readOf s first whole ≡ shownFrom n out x
     went x e = t .same ∙ rw (more, e)
 
     -- a key has no place: nothing is written, and this state is left
     pub turn-short : needsMore s st ≡ true → batched (Read n (st .place) (st .count) LendMore) (st .starts) (st .ends) out ≡ readOf s first whole
-    turn-short h = sym (went (ran [] st LendMore) (ran-more s st (roomOf whole - (n + 1)) h) ∙ shown-none n out st LendMore)
+    turn-short h = sym (went (ran [] st LendMore) (ran-more s st (answersRoom whole - (n + 1)) h) ∙ shown-none n out st LendMore)
 
     module _ (held : needsMore s st ≡ false) (a : Answer) (after : IterState) (answer : wholeNext s st .answer ≡ a) (leaves : steppedOf s st ≡ after) where
       -- the end: nothing is written, and the next state is left
       pub turn-ends : isEnd a ≡ true → batched (Read n (after .place) (after .count) AtEnd) (after .starts) (after .ends) out ≡ readOf s first whole
-      turn-ends h = sym (went (ran [] after AtEnd) (ran-end s st (roomOf whole - (n + 1)) held a after answer leaves h) ∙ shown-none n out after AtEnd)
+      turn-ends h = sym (went (ran [] after AtEnd) (ran-end s st (answersRoom whole - (n + 1)) held a after answer leaves h) ∙ shown-none n out after AtEnd)
 
       -- an answer: it is written, and the loop goes on
       pub turn-next : isEnd a ≡ false → Ripe s after → Turn s first whole (n + 1) after (over out (5 * n) (fiveOf a))
@@ -157,7 +157,7 @@ module _ (s : List ℕ) (first : IterState) (whole : List ℕ) (n : ℕ) (st : I
             ripe = ripe;
             size = over-length out (5 * n) (fiveOf a) (omega arith) ∙ t .size;
             fits = omega (arith, room-more whole n (omega (arith, t .size)));
-            same = went (ahead a (ranOf (roomOf whole - (n + 1)) s after)) (ran-next s st (roomOf whole - (n + 1)) held a after answer leaves h) ∙ shown-next n out a (ranOf (roomOf whole - (n + 1)) s after) room;
+            same = went (ahead a (ranOf (answersRoom whole - (n + 1)) s after)) (ran-next s st (answersRoom whole - (n + 1)) held a after answer leaves h) ∙ shown-next n out a (ranOf (answersRoom whole - (n + 1)) s after) room;
           }
 
   -- the output is full
@@ -170,7 +170,7 @@ module _ (s : List ℕ) (first : IterState) (whole : List ℕ) (n : ℕ) (st : I
 -- The same of what `step_in` has done.
 module _ (s : List ℕ) (first : IterState) (whole : List ℕ) (n : ℕ) (place : Place) (html checks : Bool) (starts ends : List ℕ) (count : ℕ) (out : List ℕ)
     (t : Turn s first whole n (lentState place html checks starts ends count) out) (room : 5 * n + 5 ≤ length out)
-    (r : Stepped) (starts' ends' : List ℕ) (e : taken r starts' ends' count ≡ takenOn (lent starts ends count) (stepOf s html checks (lent starts ends count) place)) where
+    (r : Stepped) (starts' ends' : List ℕ) (e : taken r starts' ends' count ≡ takenOn (keysLent starts ends count) (stepOf s html checks (keysLent starts ends count) place)) where
   abbrev st : IterState
   st = lentState place html checks starts ends count
 
@@ -180,7 +180,7 @@ module _ (s : List ℕ) (first : IterState) (whole : List ℕ) (n : ℕ) (place 
       rw (more-starts s place html checks starts ends count (p .starts) (p .ends) (p .good) r starts' ends' e m, more-ends s place html checks starts ends count (p .starts) (p .ends) (p .good) r starts' ends' e m)
       (turn-short s first whole n st out t room (more-needs s place html checks starts ends count (p .starts) (p .ends) (p .good) r starts' ends' e m))
 
-  module _ (o : Outcome) (m : r ≡ Stop.Made o) where
+  module _ (o : Advance) (m : r ≡ Stop.Made o) where
     abbrev after : IterState
     after = lentState (o .place) html checks starts' ends' (o .count)
 

@@ -72,8 +72,8 @@ unfoldable pub tablesLent : IterState → Bool
 tablesLent st = leb (length (st .starts)) capacity && leb (length (st .ends)) capacity
 
 -- how many answers an output holds
-unfoldable pub roomOf : List ℕ → ℕ
-roomOf out = length out / 5
+unfoldable pub answersRoom : List ℕ → ℕ
+answersRoom out = length out / 5
 
 -- what is handed back, and the lent memory then
 pub record Batched : Type 0 where
@@ -86,13 +86,13 @@ abbrev pub batched : Batch → (starts ends out : List ℕ) → Batched
 batched b starts ends out = record { batch = b; starts = starts; ends = ends; out = out }
 
 -- how many answers there are, and the place and the count that are left; what stands behind the last answer stays as it was
-unfoldable pub shownOf : List ℕ → Ran → Batched
-shownOf out x =
+unfoldable pub batchShown : List ℕ → Ran → Batched
+batchShown out x =
     batched (Read (length (x .answers)) (x .state .place) (x .state .count) (x .why)) (x .state .starts) (x .state .ends)
     (over out 0 (fivesOf (x .answers)))
 
 unfoldable pub readOf : List ℕ → IterState → List ℕ → Batched
-readOf s st out = shownOf out (ranOf (roomOf out) s st)
+readOf s st out = batchShown out (ranOf (answersRoom out) s st)
 
 unfoldable pub batchOf : List ℕ → IterState → List ℕ → Batched
 batchOf s st out = pick (tablesLent st) (readOf s st out) (batched WrongTables (st .starts) (st .ends) out)

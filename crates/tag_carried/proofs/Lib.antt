@@ -1,4 +1,4 @@
-pub mod Calls
 pub mod Parts
 pub mod Opens
 pub mod Loan
+pub mod Hands

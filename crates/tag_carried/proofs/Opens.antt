@@ -1,4 +1,4 @@
--- `tag_carried::new` and `tag_carried::html` meet their contracts: one walk, over the mode. The code of both is a call of `wrap` with the mode as a literal, and `function` is that code at any mode.
+-- `tag_carried::Attributes::new` and `tag_carried::Attributes::html` meet their contracts: one walk, over the mode. The code of both is a call of `wrap` with the mode as a literal, and `function` is that code at any mode.
 -- All that the proof knows of `wrap` is that it meets its contract. What the tag owns is had twice: one goes to the callee, and one is kept for the exit.
 -- Assumes nothing.
 use mathlib.Core.Path.{_≡_, refl}
@@ -37,11 +37,11 @@ use denote.Exit.{yes}
 use Rattle.tag_carried.specs.Held.{openedOn}
 use Rattle.tag_carried.specs.declared.Attributes.{Attributes}
 use Rattle.tag_carried.proofs.Attributes.Laws as T′
-use Rattle.tag_carried.proofs.Calls.{returned}
+use Rattle.law_calls.proofs.Calls.{returned}
 use Rattle.tag_carried.proofs.Parts.{Row, D, L, tagVal, tagOwn}
-use Rattle.tag_carried.proofs.wrap as g
-use Rattle.tag_carried.proofs.wrap.Symbol.{name as #g}
-use Rattle.tag_carried.proofs.new as f
+use Rattle.tag_carried.proofs.Attributes.wrap as g
+use Rattle.tag_carried.proofs.Attributes.wrap.Symbol.{name as #g}
+use Rattle.tag_carried.proofs.Attributes.new as f
 
 -- the mode as code has it
 abbrev literal : Bool → Opd

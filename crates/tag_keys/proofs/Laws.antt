@@ -20,7 +20,7 @@ use Rattle.tag_keys.specs.declared.Earlier.{Earlier}
 use Rattle.tag_keys.specs.declared.Earlier.the-variants.{At, Nothing}
 use Rattle.tag_keys.specs.declared.Checked.{Checked}
 use Rattle.tag_keys.specs.declared.Checked.the-variants.{Fresh, Same, Full}
-use Rattle.tag_keys.specs.Keys.{capacity, keyGood, keyBad, holds, countGood, tableGood, KeysIn, EndsIn, Room, HasPlace, nameAt, lastIs, sameKey, oldestOf, earlierOf, checkedBy, checkedOf, writtenBy, countBy}
+use Rattle.tag_keys.specs.Keys.{capacity, keyGood, keyBad, holds, countGood, tableGood, KeysIn, EndsIn, KeyRoom, HasPlace, nameAt, lastIs, sameKey, oldestOf, earlierOf, checkedBy, checkedOf, writtenBy, countBy}
 
 -- Two parts of a tag
 
@@ -304,7 +304,7 @@ written-length false (Fresh n) t count x = refl
 written-length checks (Same p) t count x = refl
 written-length checks Full t count x = refl
 
-pub room-stays : (checks : Bool) (v w : Checked) (starts ends : List ℕ) (m n x y : ℕ) → Room checks starts ends → Room checks (writtenBy checks v starts m x) (writtenBy checks w ends n y)
+pub room-stays : (checks : Bool) (v w : Checked) (starts ends : List ℕ) (m n x y : ℕ) → KeyRoom checks starts ends → KeyRoom checks (writtenBy checks v starts m x) (writtenBy checks w ends n y)
 room-stays checks v w starts ends m n x y r =
     record { room = λ on. (omega (arith, r .room on, written-length checks v starts m x), omega (arith, r .room on, written-length checks w ends n y)) }
 
@@ -358,7 +358,7 @@ module _ (tag starts ends : List ℕ) (count from to len : ℕ) (i : KeysIn star
     by Nothing false h = rw h (λ f. i)
 
   -- With room for as many keys as may ever be recorded they always do.
-  pub room-holds : (checks : Bool) → Room checks starts ends → holds starts ends (countBy (checkedOf tag checks starts ends count from to) count) ≡ true
+  pub room-holds : (checks : Bool) → KeyRoom checks starts ends → holds starts ends (countBy (checkedOf tag checks starts ends count from to) count) ≡ true
   unfolding checkedOf checkedBy countBy
   room-holds false r = facts-hold starts ends count (i .placed .0) (i .placed .1)
   room-holds true r = by (earlierOf tag starts ends count from to) (ltb count capacity) refl where
@@ -370,7 +370,7 @@ module _ (tag starts ends : List ℕ) (count from to len : ℕ) (i : KeysIn star
         rw h (facts-hold starts ends (count + 1) (omega arith) (omega arith))
     by Nothing false h = rw h (facts-hold starts ends count (i .placed .0) (i .placed .1))
 
-pub keys-after : (tag : List ℕ) (checks : Bool) (starts ends : List ℕ) (count from to len : ℕ) → KeysIn starts ends count len → Room checks starts ends → from < to → to ≤ len → KeysAfter checks (checkedOf tag checks starts ends count from to) starts ends count from to len
+pub keys-after : (tag : List ℕ) (checks : Bool) (starts ends : List ℕ) (count from to len : ℕ) → KeysIn starts ends count len → KeyRoom checks starts ends → from < to → to ≤ len → KeysAfter checks (checkedOf tag checks starts ends count from to) starts ends count from to len
 keys-after tag checks starts ends count from to len i r lt le =
     keys-held tag starts ends count from to len i checks lt le (room-holds tag starts ends count from to len i checks r)
 

@@ -3,7 +3,7 @@
 use Prim.Native.Nat.{ℕ, _+_, _-_, _≤_, _<_}
 use mathlib.Core.Path.{_≡_}
 use mathlib.Core.Bool.{Bool, true, false, not, _&&_}
-use mathlib.Core.List.{List}
+use mathlib.Core.List.{List, [], _∷_}
 use lib.ListN.{length, getD, set}
 use lib.Dec.{ltb, leb}
 use Rattle.scan.specs.First.{firstTo, pick}
@@ -51,7 +51,7 @@ pub record EndsIn (ends : List ℕ) (count len : ℕ) : Type 0 where
 
 -- While checks are on each list has a place for as many keys as may ever be recorded. Nothing is asked of them while
 -- checks are off.
-pub record Room (checks : Bool) (starts ends : List ℕ) : Type 0 where
+pub record KeyRoom (checks : Bool) (starts ends : List ℕ) : Type 0 where
   pub room : checks ≡ true → (capacity ≤ length starts) × (capacity ≤ length ends)
 
 -- While checks are on each list has the place of the next key.
@@ -90,6 +90,13 @@ checkedBy count Nothing = pick (ltb count capacity) (Fresh (count + 1)) Full
 -- "Recorded" applies while checks are on: without them every key is fresh, and there are as many as before.
 unfoldable pub checkedOf : List ℕ → Bool → List ℕ → List ℕ → ℕ → ℕ → ℕ → Checked
 checkedOf tag checks starts ends count from to = pick checks (checkedBy count (earlierOf tag starts ends count from to)) (Fresh count)
+
+-- The verdict by numbers: 5, with the start of the earlier key, and 6 are document 01's. A new key has none there, and is 0 with
+-- how many keys are recorded then.
+unfoldable pub checkedNumbers : Checked → List ℕ
+checkedNumbers (Fresh n) = 0 ∷ n ∷ []
+checkedNumbers (Same p) = 5 ∷ p ∷ []
+checkedNumbers Full = 6 ∷ []
 
 -- One of the lists after a new key is recorded, x being the key's own number in it: the place at index count is written and
 -- no other, so that unused key places keep their content. No key is recorded while checks are off.

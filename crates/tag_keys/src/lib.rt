@@ -7,7 +7,7 @@ ghost use mathlib.Core.Path.{_≡_};
 ghost use Prim.Native.Nat.{_+_, _≤_, _<_};
 ghost use lib.ListN.{length};
 ghost use Rattle.scan.specs.First.{firstTo};
-ghost use Rattle.tag_keys.specs.Keys.{KeysIn, EndsIn, HasPlace, holds, tableGood, lastIs, earlierOf, checkedOf, recordedIn};
+ghost use Rattle.tag_keys.specs.Keys.{KeysIn, EndsIn, HasPlace, holds, tableGood, lastIs, earlierOf, checkedOf, checkedNumbers, recordedIn};
 
 // How many keys can be recorded: `capacity` of specs/Keys.antt.
 pub const CAPACITY: usize = 256;
@@ -156,7 +156,7 @@ pub fn check_for_duplicates<'a>(
 ) -> Checked
     requires { ⌜ KeysIn (now starts) (now ends) count (length (now tag)) ⌝ }
     requires { ⌜ (from < to) × (to ≤ length (now tag)) ⌝ }
-    ensures { λ r. ⌜ r ≡ checkedOf (now (tag .entry)) checks (now (starts .entry)) (now (ends .entry)) count from to ⌝ }
+    ensures { λ r. ⌜ checkedNumbers r ≡ checkedNumbers (checkedOf (now (tag .entry)) checks (now (starts .entry)) (now (ends .entry)) count from to) ⌝ }
 {
     if !checks {
         return Checked::Fresh(count);

@@ -1,18 +1,15 @@
 -- What is read off an answer, for each way that the code can go.
-use Prim.Native.Nat.{ℕ, _≤_, _<_}
+use Prim.Native.Nat.{ℕ}
 use mathlib.Core.Path.{_≡_, refl}
 use mathlib.Core.Bool.{true, false}
 use mathlib.Core.List.{List, [], _∷_}
-use lib.ListN.{length}
 use types.Run.{OneOf, miss}
 use denote.Enum.Declared.{tagOf}
-use borrow.Author.Tests.{le-leb, lt-leb}
-use Rattle.scan.specs.Bytes.{part, sameBytes, bytes}
-use Rattle.tag_step.specs.declared.Span.{Span}
+use Rattle.scan.specs.Bytes.{sameBytes, bytes}
 use Rattle.tag_parts.specs.declared.Truth.the-variants.{Yes, No, Neither}
 use Rattle.tag_step.specs.declared.Answer.{Answer}
 use Rattle.tag_step.specs.declared.Answer.the-variants.{End, DoubleQ, SingleQ, Unquoted, Empty, ExpectedEq, ExpectedValue, UnquotedValue, ExpectedQuote, Duplicated, KeyTableFull, BadState}
-use Rattle.tag_parts.specs.Parts.{spanPart, keyPart, valuePart, truthOf}
+use Rattle.tag_parts.specs.Parts.{keyPart, valuePart, truthOf}
 use Rattle.tag_step.proofs.Answer as variants
 
 module _ (v : List ℕ) where
@@ -38,20 +35,6 @@ module _ (v : List ℕ) where
         pub says-neither : sameBytes v (bytes "false") ≡ false → Neither ≡ truthOf v
         unfolding truthOf
         says-neither e = rw (a, b, d, e)
-
-module _ (s : List ℕ) (x : Span) where
-  pub span-back : x .end < x .start → [] ≡ spanPart s x
-  unfolding spanPart
-  span-back h = rw (lt-leb (x .start) (x .end) h)
-
-  module _ (ahead : x .start ≤ x .end) where
-    pub span-past : length s < x .end → [] ≡ spanPart s x
-    unfolding spanPart
-    span-past h = rw (le-leb (x .start) (x .end) ahead, lt-leb (x .end) (length s) h)
-
-    pub span-inside : x .end ≤ length s → part s (x .start) (x .end) ≡ spanPart s x
-    unfolding spanPart
-    span-inside h = rw (le-leb (x .start) (x .end) ahead, le-leb (x .end) (length s) h)
 
 -- The variants that a `match` leaves to its last arm, by their numbers in the order of their declaration.
 

@@ -2,9 +2,8 @@
 //
 // Ports of `Attribute`, src/events/attributes.rs, its `key` and `value` as parts of the tag, and `as_bool`.
 ghost use mathlib.Core.Path.{_≡_};
-ghost use Rattle.tag_parts.specs.Parts.{spanPart, keyPart, valuePart, truthOf};
+ghost use Rattle.tag_parts.specs.Parts.{keyPart, valuePart, truthOf, truthNumber};
 use tag_step::Answer;
-use tag_step::Span;
 
 // What a value says: `Attribute::as_bool`.
 pub enum Truth {
@@ -13,19 +12,17 @@ pub enum Truth {
     Neither,
 }
 
-// The bytes that a span marks; none where it does not lie in the tag.
-fn span_part(tag: &[u8], span: Span) -> &[u8]
-    ensures { λ r. ⌜ now r ≡ spanPart (now (tag .entry)) span ⌝ }
-{
-    let start = span.start;
-    let end = span.end;
-    if start > end {
-        return &tag[..0];
+impl Truth {
+    // As a number, for an exported function, which hands out no enum.
+    pub fn number(self) -> usize
+        ensures { λ r. ⌜ r ≡ truthNumber self ⌝ }
+    {
+        match self {
+            Truth::No => 0,
+            Truth::Yes => 1,
+            Truth::Neither => 2,
+        }
     }
-    if end > tag.len() {
-        return &tag[..0];
-    }
-    &tag[start..end]
 }
 
 // The key of an answer that is an attribute, else nothing.
@@ -33,10 +30,10 @@ pub fn key_part(tag: &[u8], answer: Answer) -> &[u8]
     ensures { λ r. ⌜ now r ≡ keyPart (now (tag .entry)) answer ⌝ }
 {
     match answer {
-        Answer::DoubleQ(key, _) => span_part(tag, key),
-        Answer::SingleQ(key, _) => span_part(tag, key),
-        Answer::Unquoted(key, _) => span_part(tag, key),
-        Answer::Empty(key) => span_part(tag, key),
+        Answer::DoubleQ(key, _) => scan::inside(tag, key.start, key.end),
+        Answer::SingleQ(key, _) => scan::inside(tag, key.start, key.end),
+        Answer::Unquoted(key, _) => scan::inside(tag, key.start, key.end),
+        Answer::Empty(key) => scan::inside(tag, key.start, key.end),
         _ => &tag[..0],
     }
 }
@@ -46,9 +43,9 @@ pub fn value_part(tag: &[u8], answer: Answer) -> &[u8]
     ensures { λ r. ⌜ now r ≡ valuePart (now (tag .entry)) answer ⌝ }
 {
     match answer {
-        Answer::DoubleQ(_, value) => span_part(tag, value),
-        Answer::SingleQ(_, value) => span_part(tag, value),
-        Answer::Unquoted(_, value) => span_part(tag, value),
+        Answer::DoubleQ(_, value) => scan::inside(tag, value.start, value.end),
+        Answer::SingleQ(_, value) => scan::inside(tag, value.start, value.end),
+        Answer::Unquoted(_, value) => scan::inside(tag, value.start, value.end),
         _ => &tag[..0],
     }
 }

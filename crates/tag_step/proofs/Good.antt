@@ -1,64 +1,29 @@
--- Good states stay good: a step on tables that are ready leaves them ready and as long as they were, and `next` leaves a
--- good state whatever it began with.
-use Prim.Native.Nat.{ℕ, _≤_, _<_}
+-- Good states stay good: on tables of full size every step of a good state is taken, and `next` leaves a good state and tables
+-- as long as they were, whatever it began with.
+use Prim.Native.Nat.{ℕ}
 use mathlib.Core.Path.{_≡_, refl, sym, _∙_}
-use mathlib.Core.Bool.{Bool, true, false, _&&_}
+use mathlib.Core.Bool.{Bool, true, false}
 use mathlib.Core.List.{List}
 use native.Mathlib.Omega.{arith}
 use lib.ListN.{length, replicate, length-replicate}
 use Rattle.scan.specs.First.{pick}
 use Rattle.scan.proofs.Bytes.{and-on}
-use Rattle.tag_keys.specs.declared.Checked.{Checked}
-use Rattle.tag_keys.specs.Keys.{capacity, KeysIn, Room, tableGood}
-use Rattle.tag_keys.proofs.Laws.{in-table, keys-none, keys-after, room-stays, written-length}
-use Rattle.tag_step.specs.declared.Span.{Span}
+use Rattle.tag_keys.specs.Keys.{capacity, KeyRoom}
+use Rattle.tag_keys.proofs.Laws.{in-table, keys-none}
 use Rattle.tag_step.specs.declared.Place.{Place}
 use Rattle.tag_step.specs.declared.Place.the-variants.{Done}
 use Rattle.tag_step.specs.declared.Start.{Start}
 use Rattle.tag_step.specs.declared.Start.the-variants.{From, Ended}
+use Rattle.tag_step.specs.declared.Advance.{Advance}
+use Rattle.tag_step.specs.declared.Stepped.{Stepped}
+use Rattle.tag_step.specs.declared.Stepped.the-variants.{Made, LendMore}
 use Rattle.tag_step.specs.declared.IterState.{IterState}
 use Rattle.tag_step.specs.Read.{recoverOf}
-use Rattle.tag_step.specs.Next.{Keys, Reading, Ready, checkOf, keptBy, bareTo, valuedTo, readAt, stepFrom, stepOf, placeGood, keysOf, stateGood, noKeys, badReading, leaves, nextOf, opened, withChecks}
-use Rattle.tag_step.proofs.Whole.{starts-in, next-ready}
-use Rattle.tag_step.proofs.Ways.{step-ways}
-use Rattle.tag_step.proofs.Progress.{after-good, step-forward}
-
--- what a step keeps of the keys
-pub record Kept (s : List ℕ) (checks : Bool) (before after : Keys) : Type 0 where
-  pub inside : KeysIn (after .starts) (after .ends) (after .count) (length s)
-  pub room : Room checks (after .starts) (after .ends)
-  pub starts : length (after .starts) ≡ length (before .starts)
-  pub ends : length (after .ends) ≡ length (before .ends)
-
-module _ (s : List ℕ) (checks : Bool) (keys : Keys) (i : KeysIn (keys .starts) (keys .ends) (keys .count) (length s)) (r : Room checks (keys .starts) (keys .ends)) where
-  kept-all : Kept s checks keys keys
-  kept-all = record { inside = i; room = r; starts = refl; ends = refl }
-
-  kept-by : (key : Span) (c : Checked) → key .start < key .end → key .end ≤ length s → c ≡ checkOf s checks keys key → Kept s checks keys (keptBy checks keys key c)
-  unfolding checkOf keptBy
-  kept-by key c lt le e =
-      record {
-        inside = rw e (keys-after s checks (keys .starts) (keys .ends) (keys .count) (key .start) (key .end) (length s) i r lt le);
-        room = room-stays checks c c (keys .starts) (keys .ends) (keys .count) (keys .count) (key .start) (key .end) r;
-        starts = written-length checks c (keys .starts) (keys .count) (key .start);
-        ends = written-length checks c (keys .ends) (keys .count) (key .end);
-      }
-
-  pub read-keeps : (html : Bool) (o : ℕ) → o ≤ length s → Kept s checks keys (readAt s html checks keys o .keys)
-  unfolding bareTo valuedTo
-  read-keeps html o h =
-      step-ways s html checks keys o h (λ (x : Reading) (_ : ℕ). Kept s checks keys (x .keys))
-      (λ e. kept-all)
-      (λ key at e b m. kept-all)
-      (λ key at c e b m v. kept-by key c (b .some) (omega (arith, b .ahead, b .inside)) v)
-      (λ key eq c e b a v. kept-by key c (b .some) (omega (arith, b .ahead, b .inside)) v)
-
-  pub step-keeps : (html : Bool) (place : Place) → Kept s checks keys (stepOf s html checks keys place .keys)
-  unfolding stepOf stepFrom
-  step-keeps html place = by (recoverOf s place) refl where
-    by : (x : Start) → recoverOf s place ≡ x → Kept s checks keys (stepFrom s html checks keys place x .keys)
-    by Ended e = kept-all
-    by (From o) e = read-keeps html o (starts-in s place o e)
+use Rattle.tag_step.specs.Next.{Keys, Reading, Stands, keysLent, advanced, stepFrom, stepOf, placeGood, goodOf, keysOf, lentState, stateGood, noKeys, badReading, leaves, nextOf, opened, withChecks}
+use Rattle.tag_step.specs.Lent.{taken, stepIn}
+use Rattle.tag_step.proofs.Whole.{starts-in, good-stands, next-steps}
+use Rattle.tag_step.proofs.Taken.{Held, step-keeps-held, step-held, room-made, room-never}
+use Rattle.tag_step.proofs.Progress.{after-good, read-forward}
 
 -- the place that a step leaves is good
 pub step-stands : (s : List ℕ) (html checks : Bool) (keys : Keys) (place : Place) → placeGood s place ≡ true → placeGood s (stepOf s html checks keys place .place) ≡ true
@@ -66,31 +31,55 @@ unfolding stepOf stepFrom
 step-stands s html checks keys place g = by (recoverOf s place) refl where
   by : (x : Start) → recoverOf s place ≡ x → placeGood s (stepFrom s html checks keys place x .place) ≡ true
   by Ended e = g
-  by (From o) e = after-good s o _ (step-forward s html checks keys o (starts-in s place o e))
-
--- A step on lent tables that are ready leaves them ready for the next.
-pub step-ready : (s : List ℕ) (html checks : Bool) (keys : Keys) (place : Place) → Ready s checks keys place → Ready s checks (stepOf s html checks keys place .keys) (stepOf s html checks keys place .place)
-step-ready s html checks keys place r =
-    let k = step-keeps s checks keys (r .inside) (r .room) html place in
-    record { inside = k .inside; room = k .room; stands = step-stands s html checks keys place (r .stands) }
+  by (From o) e = after-good s o _ (read-forward s html checks keys o (starts-in s place o e))
 
 -- The tables of a state of the code have 256 places each.
 pub record Sized (st : IterState) : Type 0 where
   pub starts : length (st .starts) ≡ capacity
   pub ends : length (st .ends) ≡ capacity
 
--- a state whose tables are ready is good
-ready-good : (s : List ℕ) (checks : Bool) (keys : Keys) (place : Place) → Ready s checks keys place → (tableGood (length s) (keys .starts) (keys .ends) (keys .count) && placeGood s place) ≡ true
-ready-good s checks keys place r = sym (and-on (in-table (length s) (keys .starts) (keys .ends) (keys .count) (r .inside)) refl) ∙ r .stands
+-- that is room for every key
+sized-room : (st : IterState) → Sized st → KeyRoom (st .«check_duplicates») (st .starts) (st .ends)
+sized-room st z = record { room = λ _. (omega (arith, z .starts), omega (arith, z .ends)) }
 
-none-ready : (s : List ℕ) (checks : Bool) → Ready s checks noKeys Done
+-- So a step of a good state is taken, and no place is lacking.
+module _ (s : List ℕ) (st : IterState) (sized : Sized st) (good : stateGood s st ≡ true) where
+  pub sized-stands : Stands s (keysLent (st .starts) (st .ends) (st .count)) (st .place)
+  unfolding stateGood
+  sized-stands = good-stands s (keysLent (st .starts) (st .ends) (st .count)) (st .place) good
+
+  abbrev left : Reading
+  left = stepOf s (st .html) (st .«check_duplicates») (keysOf st) (st .place)
+
+  kept : Held s (keysOf st) (left .keys)
+  unfolding keysOf
+  kept =
+      step-keeps-held s (st .«check_duplicates») (keysOf st) (sized-stands .inside) (st .html) (st .place)
+      (step-held s (st .«check_duplicates») (keysOf st) (sized-stands .inside) (sized-room st sized) (st .html) (st .place))
+
+  left-stands : Stands s (left .keys) (left .place)
+  left-stands =
+      record { inside = kept .inside; stands = step-stands s (st .html) (st .«check_duplicates») (keysOf st) (st .place) (sized-stands .stands) }
+
+  -- what `step_in` does on such tables
+  module _ (r : Stepped) (starts ends : List ℕ) (e : taken r starts ends (st .count) ≡ stepIn s (st .html) (st .«check_duplicates») (keysLent (st .starts) (st .ends) (st .count)) (st .place)) where
+    pub sized-next : (o : Advance) → r ≡ Made o → record { answer = o .answer; state = lentState (o .place) (st .html) (st .«check_duplicates») starts ends (o .count) } ≡ nextOf s st
+    unfolding leaves keysOf
+    sized-next o m =
+        next-steps s st good (advanced o starts ends)
+        (room-made s (st .«check_duplicates») (keysOf st) (sized-stands .inside) (sized-room st sized) (st .html) (st .place) r o starts ends e m)
+
+    pub sized-never : r ≡ LendMore → ⊥
+    unfolding keysOf
+    sized-never m = room-never s (st .«check_duplicates») (keysOf st) (sized-stands .inside) (sized-room st sized) (st .html) (st .place) r starts ends e m
+
+-- A state that stands is good.
+stands-good : (s : List ℕ) (keys : Keys) (place : Place) → Stands s keys place → goodOf s keys place ≡ true
+stands-good s keys place r = sym (and-on (in-table (length s) (keys .starts) (keys .ends) (keys .count) (r .inside)) refl) ∙ r .stands
+
+none-stands : (s : List ℕ) → Stands s noKeys Done
 unfolding noKeys placeGood
-none-ready s checks =
-    record {
-      inside = keys-none (replicate capacity 0) (replicate capacity 0) (length s);
-      room = record { room = λ _. (omega (arith, length-replicate {A = ℕ} capacity 0), omega (arith, length-replicate {A = ℕ} capacity 0)) };
-      stands = refl;
-    }
+none-stands s = record { inside = keys-none (replicate capacity 0) (replicate capacity 0) (length s); stands = refl }
 
 module _ (s : List ℕ) (st : IterState) (sized : Sized st) where
   -- the state after `next` is good, whatever it was before
@@ -98,8 +87,8 @@ module _ (s : List ℕ) (st : IterState) (sized : Sized st) where
   unfolding nextOf leaves stateGood badReading
   next-stays-good = by (stateGood s st) refl where
     by : (t : Bool) → stateGood s st ≡ t → stateGood s (leaves st (pick t (stepOf s (st .html) (st .«check_duplicates») (keysOf st) (st .place)) badReading) .state) ≡ true
-    by true g = ready-good s (st .«check_duplicates») _ _ (step-ready s (st .html) (st .«check_duplicates») (keysOf st) (st .place) (next-ready s st g (sized .starts) (sized .ends)))
-    by false g = ready-good s (st .«check_duplicates») noKeys Done (none-ready s (st .«check_duplicates»))
+    by true g = stands-good s _ _ (left-stands s st sized g)
+    by false g = stands-good s noKeys Done (none-stands s)
 
   -- and has as many places
   pub next-sized : Sized (nextOf s st .state)
@@ -107,8 +96,7 @@ module _ (s : List ℕ) (st : IterState) (sized : Sized st) where
   next-sized = by (stateGood s st) refl where
     by : (t : Bool) → stateGood s st ≡ t → Sized (leaves st (pick t (stepOf s (st .html) (st .«check_duplicates») (keysOf st) (st .place)) badReading) .state)
     by true g =
-        let r = next-ready s st g (sized .starts) (sized .ends) in
-        let k = step-keeps s (st .«check_duplicates») (keysOf st) (r .inside) (r .room) (st .html) (st .place) in
+        let k = kept s st sized g in
         record { starts = k .starts ∙ sized .starts; ends = k .ends ∙ sized .ends }
     by false g = record { starts = length-replicate {A = ℕ} capacity 0; ends = length-replicate {A = ℕ} capacity 0 }
 

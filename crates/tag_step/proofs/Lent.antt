@@ -3,14 +3,16 @@
 use Prim.Native.Nat.{ℕ, zero, suc, _+_, _-_, _≤_, _<_}
 use mathlib.Core.Path.{_≡_, refl, sym, ap, fun-ext, _∙_}
 use mathlib.Core.Bool.{Bool, true, false, not, _&&_, false≢true}
-use mathlib.Core.List.{List, [], _∷_, _++_, append-nil}
+use mathlib.Core.List.{List, [], _∷_, _++_}
 use native.Mathlib.Omega.{arith}
-use lib.ListN.{length, getD, set, take, replicate, length-append, length-replicate, getD-replicate, List·getD-append}
+use lib.ListN.{length, set, take, replicate}
 use lib.Seq.{take-at, take-all}
 use lib.Dec.{leb, ltb}
 use borrow.Author.Tests.{le-leb, leb-true, leb-false}
 use Rattle.scan.specs.First.{firstTo, pick}
+use Rattle.scan.specs.Lists.{padTo}
 use Rattle.scan.proofs.Bytes.{both}
+use Rattle.scan.proofs.Lists.{pad-at, pad-length, pad-take, pad-full}
 use Rattle.tag_keys.specs.declared.Earlier.{Earlier}
 use Rattle.tag_keys.specs.declared.Checked.{Checked}
 use Rattle.tag_keys.specs.declared.Checked.the-variants.{Fresh, Same, Full}
@@ -27,35 +29,17 @@ use Rattle.tag_step.specs.declared.Answer.{Answer}
 use Rattle.tag_step.specs.declared.Answer.the-variants.{End, ExpectedEq, BadState}
 use Rattle.tag_step.specs.declared.IterState.{IterState}
 use Rattle.tag_step.specs.declared.Step.{Step}
-use Rattle.tag_step.specs.declared.Outcome.{Outcome}
+use Rattle.tag_step.specs.declared.Advance.{Advance}
 use Rattle.tag_step.specs.declared.Stepped.{Stepped}
 use Rattle.tag_step.specs.declared.Stepped.the-variants.{Made, LendMore}
 use Rattle.tag_step.specs.Read.{found, recoverOf, keyAt}
-use Rattle.tag_step.specs.Next.{Keys, Reading, reading, lent, checkOf, keptBy, bareBy, bareTo, bareOf, valuedBy, valuedTo, valuedOf, readKey, readAt, stepFrom, stepOf, placeAt, placeGood, goodOf, Stands, made, keysOf, lentState, stateGood, noKeys, badReading, leaves, nextOf}
-use Rattle.tag_step.specs.Lent.{padKeys, wholeOf, wholeNext, needsMore, steppedOf, Taken, Took, Short, taken, takenOn}
+use Rattle.tag_step.specs.Next.{Keys, Reading, reading, keysLent, checkOf, keptBy, bareBy, bareTo, bareOf, valuedBy, valuedTo, valuedOf, readKey, readAt, stepFrom, stepOf, placeAt, placeGood, advanced, keysOf, lentState, stateGood, noKeys, badReading, leaves, nextOf}
+use Rattle.tag_step.specs.Lent.{wholeOf, wholeNext, needsMore, steppedOf, Taken, Took, Short, taken, takenOn}
 use Rattle.tag_step.proofs.Good.{Sized, step-stands, next-stays-good, next-sized}
 use Rattle.tag_step.proofs.Taken.{Held, step-keeps-held}
 use Rattle.tag_step.proofs.Whole.{next-bad, next-steps}
 
 -- Padding.
-
--- past a list's end 0 is read, as in the padding
-append-zeros : (t : List ℕ) (n k : ℕ) → getD (t ++ replicate n 0) k 0 ≡ getD t k 0
-append-zeros [] n k = zeros n k where
-  zeros : (n k : ℕ) → getD {A = ℕ} (replicate n 0) k 0 ≡ 0
-  zeros zero k = refl
-  zeros (suc n) zero = refl
-  zeros (suc n) (suc k) = zeros n k
-append-zeros (x ∷ t) n zero = refl
-append-zeros (x ∷ t) n (suc k) = append-zeros t n k
-
-pub pad-at : (t : List ℕ) (k : ℕ) → getD (padKeys t) k 0 ≡ getD t k 0
-unfolding padKeys
-pad-at t k = append-zeros t (capacity - length t) k
-
-pub pad-length : (t : List ℕ) → length t ≤ capacity → length (padKeys t) ≡ capacity
-unfolding padKeys
-pad-length t h = omega (arith, length-append t (replicate (capacity - length t) 0), length-replicate {A = ℕ} (capacity - length t) 0)
 
 -- what is lent of a padded table, as it is and after a place was written, wherever that is
 set-front : (t z : List ℕ) (i x : ℕ) → take (length t) (set (t ++ z) i x) ≡ set t i x
@@ -63,16 +47,12 @@ set-front [] z i x = refl
 set-front (a ∷ t) z zero x = ap (λ (l : List ℕ). x ∷ l) (take-at t z (length t) refl)
 set-front (a ∷ t) z (suc i) x = ap (λ (l : List ℕ). a ∷ l) (set-front t z i x)
 
-pub pad-front : (t : List ℕ) → take (length t) (padKeys t) ≡ t
-unfolding padKeys
-pad-front t = take-at t (replicate (capacity - length t) 0) (length t) refl
-
-written-front : (checks : Bool) (c : Checked) (t : List ℕ) (count x : ℕ) → take (length t) (writtenBy checks c (padKeys t) count x) ≡ writtenBy checks c t count x
-unfolding writtenBy padKeys
+written-front : (checks : Bool) (c : Checked) (t : List ℕ) (count x : ℕ) → take (length t) (writtenBy checks c (padTo capacity t) count x) ≡ writtenBy checks c t count x
+unfolding writtenBy padTo
 written-front true (Fresh n) t count x = set-front t (replicate (capacity - length t) 0) count x
-written-front false (Fresh n) t count x = pad-front t
-written-front checks (Same p) t count x = pad-front t
-written-front checks Full t count x = pad-front t
+written-front false (Fresh n) t count x = pad-take capacity t
+written-front checks (Same p) t count x = pad-take capacity t
+written-front checks Full t count x = pad-take capacity t
 
 take-zeros : (m n : ℕ) → m ≤ n → take m (replicate {A = ℕ} n 0) ≡ replicate m 0
 take-zeros zero n h = refl
@@ -81,41 +61,41 @@ take-zeros (suc m) (suc n) h = ap (λ (l : List ℕ). 0 ∷ l) (take-zeros m n (
 
 -- The verdict on a key, and the test of a table, read the recorded keys alone.
 
-same-padded : (s starts ends : List ℕ) (from to k : ℕ) → sameKey s (padKeys starts) (padKeys ends) from to k ≡ sameKey s starts ends from to k
+same-padded : (s starts ends : List ℕ) (from to k : ℕ) → sameKey s (padTo capacity starts) (padTo capacity ends) from to k ≡ sameKey s starts ends from to k
 unfolding sameKey nameAt
-same-padded s starts ends from to k = rw (pad-at starts k, pad-at ends k)
+same-padded s starts ends from to k = rw (pad-at capacity starts k, pad-at capacity ends k)
 
-oldest-padded : (s starts ends : List ℕ) (count from to : ℕ) → oldestOf s (padKeys starts) (padKeys ends) count from to ≡ oldestOf s starts ends count from to
+oldest-padded : (s starts ends : List ℕ) (count from to : ℕ) → oldestOf s (padTo capacity starts) (padTo capacity ends) count from to ≡ oldestOf s starts ends count from to
 unfolding oldestOf
 oldest-padded s starts ends count from to = ap (λ (p : ℕ → Bool). firstTo p 0 count) (fun-ext (same-padded s starts ends from to))
 
-check-padded : (s : List ℕ) (checks : Bool) (starts ends : List ℕ) (count from to : ℕ) → checkedOf s checks (padKeys starts) (padKeys ends) count from to ≡ checkedOf s checks starts ends count from to
+check-padded : (s : List ℕ) (checks : Bool) (starts ends : List ℕ) (count from to : ℕ) → checkedOf s checks (padTo capacity starts) (padTo capacity ends) count from to ≡ checkedOf s checks starts ends count from to
 unfolding checkedOf earlierOf
 check-padded s checks starts ends count from to =
-    rw (oldest-padded s starts ends count from to, pad-at starts (oldestOf s starts ends count from to))
+    rw (oldest-padded s starts ends count from to, pad-at capacity starts (oldestOf s starts ends count from to))
 
-bad-at : (len : ℕ) (starts ends : List ℕ) (k : ℕ) → keyBad len (padKeys starts) (padKeys ends) k ≡ keyBad len starts ends k
+bad-at : (len : ℕ) (starts ends : List ℕ) (k : ℕ) → keyBad len (padTo capacity starts) (padTo capacity ends) k ≡ keyBad len starts ends k
 unfolding keyBad
-bad-at len starts ends k = rw (pad-at starts k, pad-at ends k)
+bad-at len starts ends k = rw (pad-at capacity starts k, pad-at capacity ends k)
 
-bad-padded : (len : ℕ) (starts ends : List ℕ) (count : ℕ) → firstTo (keyBad len (padKeys starts) (padKeys ends)) 0 count ≡ firstTo (keyBad len starts ends) 0 count
+bad-padded : (len : ℕ) (starts ends : List ℕ) (count : ℕ) → firstTo (keyBad len (padTo capacity starts) (padTo capacity ends)) 0 count ≡ firstTo (keyBad len starts ends) 0 count
 bad-padded len starts ends count = ap (λ (p : ℕ → Bool). firstTo p 0 count) (fun-ext (bad-at len starts ends))
 
 -- A step on padded tables.
 
 -- what is lent of other tables
 abbrev front : Keys → Keys → Keys
-front keys other = lent (take (length (keys .starts)) (other .starts)) (take (length (keys .ends)) (other .ends)) (other .count)
+front keys other = keysLent (take (length (keys .starts)) (other .starts)) (take (length (keys .ends)) (other .ends)) (other .count)
 
 abbrev fronted : Keys → Reading → Reading
 fronted keys x = reading (found (x .answer) (x .place)) (front keys (x .keys))
 
 abbrev padded : Keys → Keys
-padded keys = lent (padKeys (keys .starts)) (padKeys (keys .ends)) (keys .count)
+padded keys = keysLent (padTo capacity (keys .starts)) (padTo capacity (keys .ends)) (keys .count)
 
 module _ (s : List ℕ) (html checks : Bool) (keys : Keys) where
   front-all : keys ≡ front keys (padded keys)
-  front-all = rw (pad-front (keys .starts), pad-front (keys .ends))
+  front-all = rw (pad-take capacity (keys .starts), pad-take capacity (keys .ends))
 
   kept-front : (key : Span) (c : Checked) → keptBy checks keys key c ≡ front keys (keptBy checks (padded keys) key c)
   unfolding keptBy
@@ -152,7 +132,7 @@ module _ (s : List ℕ) (st : IterState) (ls : length (st .starts) ≤ capacity)
   pub whole-good : holds (st .starts) (st .ends) (st .count) ≡ true → stateGood s st ≡ stateGood s (wholeOf st)
   unfolding stateGood wholeOf tableGood countGood
   whole-good h =
-      rw (bad-padded (length s) (st .starts) (st .ends) (st .count), pad-length (st .starts) ls, pad-length (st .ends) le)
+      rw (bad-padded (length s) (st .starts) (st .ends) (st .count), pad-length capacity (st .starts) ls, pad-length capacity (st .ends) le)
       (ap (λ (b : Bool). b && placeGood s (st .place))
       (good-by (leb (st .count) capacity) (holds (st .starts) (st .ends) (st .count)) (leb (st .count) capacity) (leb (st .count) capacity) h refl refl (leb (st .count) (firstTo (keyBad (length s) (st .starts) (st .ends)) 0 (st .count)))))
 
@@ -214,22 +194,22 @@ module _ (s : List ℕ) (place : Place) (html checks : Bool) (starts ends : List
   stood = lentState place html checks starts ends count
 
   abbrev next : Reading
-  next = stepOf s html checks (lent starts ends count) place
+  next = stepOf s html checks (keysLent starts ends count) place
 
-  module _ (ls : length starts ≤ capacity) (le : length ends ≤ capacity) (good : stateGood s stood ≡ true) (r : Stepped) (starts' ends' : List ℕ) (e : taken r starts' ends' count ≡ takenOn (lent starts ends count) next) where
-    by-holds : (t : Bool) → holds starts ends (next .keys .count) ≡ t → taken r starts' ends' count ≡ pick t (Took next) (Short (lent starts ends count))
+  module _ (ls : length starts ≤ capacity) (le : length ends ≤ capacity) (good : stateGood s stood ≡ true) (r : Stepped) (starts' ends' : List ℕ) (e : taken r starts' ends' count ≡ takenOn (keysLent starts ends count) next) where
+    by-holds : (t : Bool) → holds starts ends (next .keys .count) ≡ t → taken r starts' ends' count ≡ pick t (Took next) (Short (keysLent starts ends count))
     unfolding takenOn
     by-holds t h = e ∙ rw h
 
-    is-made : (o : Outcome) → r ≡ Made o → (holds starts ends (next .keys .count) ≡ true) × (made o starts' ends' ≡ next)
+    is-made : (o : Advance) → r ≡ Made o → (holds starts ends (next .keys .count) ≡ true) × (advanced o starts' ends' ≡ next)
     is-made o m = by (holds starts ends (next .keys .count)) refl where
-      by : (t : Bool) → holds starts ends (next .keys .count) ≡ t → (t ≡ true) × (made o starts' ends' ≡ next)
+      by : (t : Bool) → holds starts ends (next .keys .count) ≡ t → (t ≡ true) × (advanced o starts' ends' ≡ next)
       by true h =
-          let w : taken r starts' ends' count ≡ Took (made o starts' ends') = ap (λ (x : Stepped). taken x starts' ends' count) m in
+          let w : taken r starts' ends' count ≡ Took (advanced o starts' ends') = ap (λ (x : Stepped). taken x starts' ends' count) m in
           let z = by-holds true h in
           (refl, cc)
       by false h =
-          let w : taken r starts' ends' count ≡ Took (made o starts' ends') = ap (λ (x : Stepped). taken x starts' ends' count) m in
+          let w : taken r starts' ends' count ≡ Took (advanced o starts' ends') = ap (λ (x : Stepped). taken x starts' ends' count) m in
           let z = by-holds false h in
           let n : _≡_ {A = ℕ} 0 1 = cc in
           absurd (omega arith)
@@ -238,18 +218,18 @@ module _ (s : List ℕ) (place : Place) (html checks : Bool) (starts ends : List
     is-short m = by (holds starts ends (next .keys .count)) refl where
       by : (t : Bool) → holds starts ends (next .keys .count) ≡ t → (t ≡ false) × (starts' ≡ starts) × (ends' ≡ ends)
       by true h =
-          let w : taken r starts' ends' count ≡ Short (lent starts' ends' count) = ap (λ (x : Stepped). taken x starts' ends' count) m in
+          let w : taken r starts' ends' count ≡ Short (keysLent starts' ends' count) = ap (λ (x : Stepped). taken x starts' ends' count) m in
           let z = by-holds true h in
           let n : _≡_ {A = ℕ} 0 1 = cc in
           absurd (omega arith)
       by false h =
-          let w : taken r starts' ends' count ≡ Short (lent starts' ends' count) = ap (λ (x : Stepped). taken x starts' ends' count) m in
+          let w : taken r starts' ends' count ≡ Short (keysLent starts' ends' count) = ap (λ (x : Stepped). taken x starts' ends' count) m in
           let z = by-holds false h in
-          let q : lent starts' ends' count ≡ lent starts ends count = cc in
+          let q : keysLent starts' ends' count ≡ keysLent starts ends count = cc in
           (refl, ap (λ (k : Keys). k .starts) q, ap (λ (k : Keys). k .ends) q)
 
     -- it was taken: the answer, what is left, and that is good again
-    module _ (o : Outcome) (m : r ≡ Made o) where
+    module _ (o : Advance) (m : r ≡ Made o) where
       pub made-held : needsMore s stood ≡ false
       unfolding keysOf
       made-held = good-needs s stood ls le good next refl ∙ ap not (is-made o m .0)
@@ -272,14 +252,14 @@ module _ (s : List ℕ) (place : Place) (html checks : Bool) (starts ends : List
       unfolding stateGood
       placed = both (tableGood (length s) starts ends count) (placeGood s place) good .1
 
-      kept : Held s (lent starts ends count) (next .keys)
-      kept = step-keeps-held s checks (lent starts ends count) inside html place (is-made o m .0)
+      kept : Held s (keysLent starts ends count) (next .keys)
+      kept = step-keeps-held s checks (keysLent starts ends count) inside html place (is-made o m .0)
 
       pub made-good : stateGood s (lentState (o .place) html checks starts' ends' (o .count)) ≡ true
       unfolding stateGood
       made-good =
           ap (λ (x : Reading). tableGood (length s) (x .keys .starts) (x .keys .ends) (x .keys .count) && placeGood s (x .place)) (is-made o m .1)
-          ∙ rw (in-table (length s) (next .keys .starts) (next .keys .ends) (next .keys .count) (kept .inside), step-stands s html checks (lent starts ends count) place placed)
+          ∙ rw (in-table (length s) (next .keys .starts) (next .keys .ends) (next .keys .count) (kept .inside), step-stands s html checks (keysLent starts ends count) place placed)
 
       pub made-starts : length starts' ≡ length starts
       made-starts = ap (λ (x : Reading). length (x .keys .starts)) (is-made o m .1) ∙ kept .starts
@@ -299,30 +279,18 @@ module _ (s : List ℕ) (place : Place) (html checks : Bool) (starts ends : List
       pub more-ends : ends' ≡ ends
       more-ends = is-short m .2
 
--- a good state stands, as `step_in` asks
-pub good-stands : (s : List ℕ) (keys : Keys) (place : Place) → goodOf s keys place ≡ true → Stands s keys place
-good-stands s keys place g =
-    let b = both (tableGood (length s) (keys .starts) (keys .ends) (keys .count)) (placeGood s place) g in
-    record { inside = table-in (length s) (keys .starts) (keys .ends) (keys .count) (b .0); stands = b .1 }
-
 -- Tables of full size are the iterator's own: no place is ever lacking, and a step is `nextOf`.
 
-pad-full : (t : List ℕ) → length t ≡ capacity → padKeys t ≡ t
-unfolding padKeys
-pad-full t h =
-    let e : capacity - length t ≡ 0 = omega arith in
-    rw e (append-nil t)
+pub whole-full : (st : IterState) → Sized st → wholeOf st ≡ st
+unfolding wholeOf
+whole-full st z = rw (pad-full capacity (st .starts) (z .starts), pad-full capacity (st .ends) (z .ends))
 
 module _ (s : List ℕ) (st : IterState) (z : Sized st) where
-  whole-full : wholeOf st ≡ st
-  unfolding wholeOf
-  whole-full = rw (pad-full (st .starts) (z .starts), pad-full (st .ends) (z .ends))
-
   pub full-next : wholeNext s st ≡ nextOf s st
   unfolding wholeNext
   full-next = by (stateGood s st) refl where
     by : (t : Bool) → stateGood s st ≡ t → pick (holds (st .starts) (st .ends) (st .count)) (nextOf s (wholeOf st)) (leaves st badReading) ≡ nextOf s st
-    by true good = rw (good-holds s st (omega (arith, z .starts)) (omega (arith, z .ends)) good, whole-full)
+    by true good = rw (good-holds s st (omega (arith, z .starts)) (omega (arith, z .ends)) good, whole-full st z)
     by false bad = whole-bad s st (omega (arith, z .starts)) (omega (arith, z .ends)) bad ∙ next-bad s st bad
 
   pub full-held : needsMore s st ≡ false

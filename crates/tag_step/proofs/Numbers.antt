@@ -5,10 +5,12 @@ use mathlib.Core.List.{List}
 use lib.ListN.{getD}
 use lib.Dec.{eqb}
 use Rattle.scan.specs.First.{pick}
+use Rattle.tag_step.specs.declared.IterState.{IterState}
+use Rattle.tag_step.specs.declared.Step.{Step}
 use Rattle.tag_step.specs.declared.Answer.{Answer}
 use Rattle.tag_step.specs.declared.Answer.the-variants.{End, DoubleQ, SingleQ, Unquoted, Empty, ExpectedEq, ExpectedValue, UnquotedValue, ExpectedQuote, Duplicated, KeyTableFull, BadState}
 use Rattle.tag_step.specs.Read.{span}
-use Rattle.tag_step.specs.Numbers.{numbersOf}
+use Rattle.tag_step.specs.Numbers.{numbersOf, numberedStep}
 
 -- the answer with the number n and the values a, b, c, d
 answerBy : ℕ → ℕ → ℕ → ℕ → ℕ → Answer
@@ -45,3 +47,12 @@ read-back BadState = refl
 
 pub numbers-apart : (a b : Answer) → numbersOf a ≡ numbersOf b → a ≡ b
 numbers-apart a b e = sym (read-back a) ∙ ap answerOf e ∙ read-back b
+
+-- and with them the state, what a step hands back
+abbrev stepTo : Answer → IterState → Step
+stepTo a st = record { answer = a; state = st }
+
+pub step-apart : (x y : Step) → numberedStep x ≡ numberedStep y → x ≡ y
+step-apart x y e =
+    ap (λ (a : Answer). stepTo a (x .state)) (numbers-apart (x .answer) (y .answer) (ap (λ (z : List ℕ × IterState). z .0) e))
+    ∙ ap (stepTo (y .answer)) (ap (λ (z : List ℕ × IterState). z .1) e)

@@ -15,7 +15,7 @@ use Rattle.tag_step.specs.declared.Place.the-variants.{Done, Next, SkipV
 use Rattle.tag_step.specs.declared.Start.the-variants.{From, Ended}
 use Rattle.tag_step.specs.declared.KeyRead.the-variants.{NoKey, Bare, Valued}
 use Rattle.tag_step.specs.declared.Answer.the-variants.{Unquoted, ExpectedValue, UnquotedValue, ExpectedQuote}
-use Rattle.tag_step.specs.Read.{span, found, isAt, isQuote, skipTo, skipOf, skipEqIn, skipEqFrom, skipEqValueOf, recoverOf, keyEq, keyTo, keyFrom, keyAt, quoted, closedOf, quotedTo, quotedOf, unquotedTo, otherOf, valueIn, valueFrom, valueAt}
+use Rattle.tag_step.specs.Read.{span, found, isAt, isQuote, skipTo, skipOf, skipEqIn, skipEqFrom, skipEqValueOf, recoverOf, keyEq, keyTo, keyFrom, keyAt, quoted, closedOf, quotedTo, quotedOf, unquotedTo, otherOf, valueBy, valueFrom, valueAt}
 use Rattle.tag_step.specs.Next.{placeAt, placeGood}
 
 -- quotes
@@ -136,21 +136,21 @@ module _ (s : List ℕ) (html : Bool) (key : Span) (eq v : ℕ) (a : v ≡ first
   value-none h = rw (sym a, le-ltb v (length s) h)
 
   module _ (in-tag : v < length s) where
-    value-is : valueAt s html key eq ≡ valueIn s html key v (getD s v 0)
+    value-is : valueAt s html key eq ≡ valueBy s html key v (getD s v 0)
     unfolding valueAt valueFrom
     value-is = rw (sym a, lt-ltb v (length s) in-tag)
 
     pub value-quoted : isQuote (getD s v 0) ≡ true → quotedOf s (getD s v 0) key (v + 1) ≡ valueAt s html key eq
-    unfolding valueIn
+    unfolding valueBy
     value-quoted q = sym (value-is ∙ rw q)
 
     module _ (other : isQuote (getD s v 0) ≡ false) where
       pub value-unquoted : html ≡ true → (e : ℕ) → e ≡ firstFrom isSpace s v → found (Unquoted key (span v e)) (Next e) ≡ valueAt s html key eq
-      unfolding valueIn otherOf unquotedTo
+      unfolding valueBy otherOf unquotedTo
       value-unquoted on e b = sym (value-is ∙ rw (other, on, sym b))
 
       pub value-bad : html ≡ false → found (UnquotedValue v) (SkipValue v) ≡ valueAt s html key eq
-      unfolding valueIn otherOf
+      unfolding valueBy otherOf
       value-bad off = sym (value-is ∙ rw (other, off))
 
 -- placeAt

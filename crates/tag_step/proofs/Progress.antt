@@ -68,9 +68,9 @@ module _ (s : List ℕ) (o : ℕ) where
   bare-after key at Full h = tt
 
 -- A step from o leaves a place past o.
-pub step-forward : (s : List ℕ) (html checks : Bool) (keys : Keys) (o : ℕ) → o ≤ length s → After s o (readAt s html checks keys o .place)
+pub read-forward : (s : List ℕ) (html checks : Bool) (keys : Keys) (o : ℕ) → o ≤ length s → After s o (readAt s html checks keys o .place)
 unfolding After bareTo valuedTo
-step-forward s html checks keys o h =
+read-forward s html checks keys o h =
     step-ways s html checks keys o h (λ (x : Reading) (_ : ℕ). After s o (x .place))
     (λ e. tt)
     (λ key at e i m. place-after s o at (omega (arith, i .from, i .some, i .ahead)))

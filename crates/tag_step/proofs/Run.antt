@@ -1,5 +1,5 @@
--- Whole runs: the three forms of a run agree, a run has no more answers than there are bytes left, so that more budget
--- changes nothing, and once ended it stays ended.
+-- Whole runs: the three forms of a run agree, and a run has no more answers than there are bytes left, so that more budget
+-- changes nothing.
 use Prim.Native.Nat.{ℕ, zero, suc, _+_, _-_, _≤_, _<_}
 use mathlib.Core.Path.{_≡_, refl, sym, ap, subst, _∙_}
 use mathlib.Core.Bool.{Bool, true, false, false≢true}
@@ -7,29 +7,23 @@ use mathlib.Core.List.{List, [], _∷_}
 use native.Mathlib.Nat.{add-suc, add-zero, suc-add}
 use native.Mathlib.Omega.{arith}
 use lib.ListN.{length}
-use lib.Dec.{eqb}
 use Rattle.scan.specs.First.{firstFrom}
 use Rattle.scan.specs.Bytes.{notSpace}
-use Rattle.scan.proofs.Laws.{past, picks}
-use Rattle.tag_keys.specs.declared.Checked.{Checked}
-use Rattle.tag_keys.specs.declared.Checked.the-variants.{Fresh, Same, Full}
-use Rattle.tag_step.specs.declared.Span.{Span}
+use Rattle.scan.proofs.Laws.{past}
 use Rattle.tag_step.specs.declared.Place.{Place}
-use Rattle.tag_step.specs.declared.Place.the-variants.{Done, Next}
+use Rattle.tag_step.specs.declared.Place.the-variants.{Next}
 use Rattle.tag_step.specs.declared.Start.{Start}
 use Rattle.tag_step.specs.declared.Start.the-variants.{From, Ended}
 use Rattle.tag_step.specs.declared.Answer.{Answer}
 use Rattle.tag_step.specs.declared.Answer.the-variants.{End}
-use Rattle.tag_step.specs.declared.Found.{Found}
 use Rattle.tag_step.specs.declared.IterState.{IterState}
 use Rattle.tag_step.specs.declared.Step.{Step}
-use Rattle.tag_step.specs.Read.{recoverOf, quoted, closedOf, valueAt}
-use Rattle.tag_step.specs.Next.{Keys, Reading, bareBy, bareTo, valuedBy, valuedTo, readKey, readAt, stepFrom, stepOf, keysOf, stateGood, badReading, leaves, nextOf, noKeys, opened}
+use Rattle.tag_step.specs.Read.{recoverOf}
+use Rattle.tag_step.specs.Next.{Keys, Reading, readKey, readAt, stepFrom, stepOf, keysOf, stateGood, badReading, leaves, nextOf, noKeys, opened}
 use Rattle.tag_step.specs.Run.{isEnd, consUnless, runOf, answersOf, runLent, runFrom, answersFrom}
 use Rattle.tag_step.proofs.Paths.{key-none}
-use Rattle.tag_step.proofs.Whole.{StartIn, recover-in, starts-in, step-ended, step-reads, next-bad, next-steps}
-use Rattle.tag_step.proofs.Ways.{value-ways, step-ways}
-use Rattle.tag_step.proofs.Progress.{StartPast, step-forward, resume-past}
+use Rattle.tag_step.proofs.Whole.{StartIn, recover-in, starts-in, next-bad, next-steps}
+use Rattle.tag_step.proofs.Progress.{StartPast, read-forward, resume-past}
 use Rattle.tag_step.proofs.Good.{Sized, next-stays-good, next-sized, opened-sized, opened-good}
 
 -- The three forms
@@ -126,7 +120,7 @@ unfolding runFrom isEnd consUnless StartIn
 one-more zero s html checks keys (From o) i h = rw (at-end s html checks keys o (omega arith))
 one-more (suc n) s html checks keys (From o) i h =
     let r = readAt s html checks keys o in
-    let p = resume-past s o (r .place) (step-forward s html checks keys o i) in
+    let p = resume-past s o (r .place) (read-forward s html checks keys o i) in
     ap (consUnless (isEnd (r .answer)) (r .answer)) (one-more n s html checks (r .keys) (recoverOf s (r .place)) (past-in (length s) o (recoverOf s (r .place)) p) (left-falls (length s) o n (recoverOf s (r .place)) p h))
 one-more zero s html checks keys Ended i h = refl
 one-more (suc n) s html checks keys Ended i h = refl
@@ -146,7 +140,7 @@ unfolding stepFrom isEnd
 todo-by s html checks keys place Ended e z = absurd (false≢true (sym z))
 todo-by s html checks keys place (From o) e z =
     let r = readAt s html checks keys o in
-    todo-past (length s) o (recoverOf s (r .place)) (resume-past s o (r .place) (step-forward s html checks keys o (starts-in s place o e)))
+    todo-past (length s) o (recoverOf s (r .place)) (resume-past s o (r .place) (read-forward s html checks keys o (starts-in s place o e)))
 
 -- An answer that is not the end leaves less.
 pub todo-falls : (s : List ℕ) (html checks : Bool) (keys : Keys) (place : Place) → isEnd (stepOf s html checks keys place .answer) ≡ false → todo (length s) (recoverOf s (stepOf s html checks keys place .place)) < todo (length s) (recoverOf s place)
@@ -197,50 +191,3 @@ run-whole j s st sized = by (stateGood s st) refl where
   by false bad =
       let l = bad-left s st (nextOf s st) (next-bad s st bad) in
       rw suc-add (after-first (length s + j) (length s) s st (runs-more j (length s) s (nextOf s st .state) (next-sized s st sized) (next-stays-good s st sized) (omega arith)))
-
--- Once ended, a run stays ended
-
-quoted-no-end : (q : ℕ) (key value : Span) → isEnd (quoted q key value) ≡ false
-unfolding isEnd quoted
-quoted-no-end q key value = picks (λ (a : Answer). isEnd a ≡ false) (eqb q 34) (λ _. refl) (λ _. refl)
-
-value-no-end : (s : List ℕ) (html : Bool) (key : Span) (eq : ℕ) → isEnd (valueAt s html key eq .answer) ≡ false
-unfolding isEnd closedOf
-value-no-end s html key eq =
-    value-ways s html key eq _ refl (λ (x : Found) (_ : ℕ). isEnd (x .answer) ≡ false) (λ _. refl) (λ e l q b g. quoted-no-end _ key _) (λ e l q b g. refl) (λ e l q m b. refl) (λ l q m. refl)
-
-bare-no-end : (s : List ℕ) (key : Span) (at : ℕ) (c : Checked) → isEnd (bareBy s key at c .answer) ≡ false
-unfolding isEnd bareBy
-bare-no-end s key at (Fresh n) = refl
-bare-no-end s key at (Same p) = refl
-bare-no-end s key at Full = refl
-
-valued-no-end : (s : List ℕ) (html : Bool) (key : Span) (eq : ℕ) (c : Checked) → isEnd (valuedBy s html key eq c .answer) ≡ false
-unfolding isEnd valuedBy
-valued-no-end s html key eq (Fresh n) = value-no-end s html key eq
-valued-no-end s html key eq (Same p) = refl
-valued-no-end s html key eq Full = refl
-
--- reading that finds no key leaves done
-read-ends : (s : List ℕ) (html checks : Bool) (keys : Keys) (o : ℕ) → o ≤ length s → isEnd (readAt s html checks keys o .answer) ≡ true → readAt s html checks keys o .place ≡ Done
-unfolding isEnd bareTo valuedTo
-read-ends s html checks keys o h =
-    step-ways s html checks keys o h (λ (x : Reading) (_ : ℕ). isEnd (x .answer) ≡ true → x .place ≡ Done)
-    (λ e z. refl)
-    (λ key at e i m z. absurd (false≢true z))
-    (λ key at c e i m v z. absurd (false≢true (sym (bare-no-end s key at c) ∙ z)))
-    (λ key eq c e i a v z. absurd (false≢true (sym (valued-no-end s html key eq c) ∙ z)))
-
-done-ends : (s : List ℕ) (html checks : Bool) (keys : Keys) (place : Place) → place ≡ Done → isEnd (stepOf s html checks keys place .answer) ≡ true
-unfolding stepOf stepFrom recoverOf isEnd
-done-ends s html checks keys place e = rw e
-
--- The step after an end is an end again.
-pub end-stays : (s : List ℕ) (html checks : Bool) (keys : Keys) (place : Place) → isEnd (stepOf s html checks keys place .answer) ≡ true → isEnd (stepOf s html checks (stepOf s html checks keys place .keys) (stepOf s html checks keys place .place) .answer) ≡ true
-end-stays s html checks keys place = by (recoverOf s place) refl where
-  by : (x : Start) → recoverOf s place ≡ x → isEnd (stepOf s html checks keys place .answer) ≡ true → isEnd (stepOf s html checks (stepOf s html checks keys place .keys) (stepOf s html checks keys place .place) .answer) ≡ true
-  by Ended e z = subst (λ (r : Reading). isEnd (stepOf s html checks (r .keys) (r .place) .answer) ≡ true) (step-ended s html checks keys place e) z
-  by (From o) e z =
-      let r = step-reads s html checks keys place o e in
-      subst (λ (x : Reading). isEnd (stepOf s html checks (x .keys) (x .place) .answer) ≡ true) r
-      (done-ends s html checks (readAt s html checks keys o .keys) (readAt s html checks keys o .place) (read-ends s html checks keys o (starts-in s place o e) (subst (λ (x : Reading). isEnd (x .answer) ≡ true) (sym r) z)))

@@ -8,17 +8,17 @@ use lib.ListN.{length}
 use Rattle.scan.specs.First.{pick}
 use Rattle.tag_keys.specs.declared.Checked.{Checked}
 use Rattle.tag_keys.specs.declared.Checked.the-variants.{Fresh, Same, Full}
-use Rattle.tag_keys.specs.Keys.{holds, KeysIn, Room, checkedOf, recordedIn, writtenBy, countBy}
+use Rattle.tag_keys.specs.Keys.{holds, KeysIn, KeyRoom, checkedOf, recordedIn, writtenBy, countBy}
 use Rattle.tag_keys.proofs.Laws.{facts-hold, KeysAfter, keys-held, room-holds, written-length}
 use Rattle.tag_step.specs.declared.Span.{Span}
 use Rattle.tag_step.specs.declared.Place.{Place}
 use Rattle.tag_step.specs.declared.Start.{Start}
 use Rattle.tag_step.specs.declared.Start.the-variants.{From, Ended}
-use Rattle.tag_step.specs.declared.Outcome.{Outcome}
+use Rattle.tag_step.specs.declared.Advance.{Advance}
 use Rattle.tag_step.specs.declared.Stepped.{Stepped}
 use Rattle.tag_step.specs.declared.Stepped.the-variants.{Made, LendMore}
 use Rattle.tag_step.specs.Read.{recoverOf}
-use Rattle.tag_step.specs.Next.{Keys, Reading, lent, made, checkOf, keptBy, bareTo, bareOf, valuedTo, valuedOf, readAt, stepFrom, stepOf, placeAt}
+use Rattle.tag_step.specs.Next.{Keys, Reading, keysLent, advanced, checkOf, keptBy, bareTo, bareOf, valuedTo, valuedOf, readAt, stepFrom, stepOf, placeAt}
 use Rattle.tag_step.specs.Lent.{Taken, Took, Short, taken, takenOn}
 use Rattle.tag_step.proofs.Whole.{starts-in}
 use Rattle.tag_step.proofs.Ways.{step-ways}
@@ -52,13 +52,13 @@ took-same keys len i x y e n = took keys x y e (rw n (facts-hold (keys .starts) 
 
 -- a new key that is not held
 module _ (s : List ℕ) (html checks : Bool) (starts ends : List ℕ) (count : ℕ) (key : Span) (at n : ℕ) (fresh : checkedOf s checks starts ends count (key .start) (key .end) ≡ Fresh n) (short : holds starts ends n ≡ false) where
-  pub valued-untaken : Short (lent starts ends count) ≡ takenOn (lent starts ends count) (valuedOf s html checks (lent starts ends count) key at)
+  pub valued-untaken : Short (keysLent starts ends count) ≡ takenOn (keysLent starts ends count) (valuedOf s html checks (keysLent starts ends count) key at)
   unfolding valuedOf valuedTo keptBy countBy checkOf
-  valued-untaken = untaken (lent starts ends count) (valuedOf s html checks (lent starts ends count) key at) (rw (fresh, short))
+  valued-untaken = untaken (keysLent starts ends count) (valuedOf s html checks (keysLent starts ends count) key at) (rw (fresh, short))
 
-  pub bare-untaken : html ≡ true → Short (lent starts ends count) ≡ takenOn (lent starts ends count) (bareOf s html checks (lent starts ends count) key at)
+  pub bare-untaken : html ≡ true → Short (keysLent starts ends count) ≡ takenOn (keysLent starts ends count) (bareOf s html checks (keysLent starts ends count) key at)
   unfolding bareOf bareTo keptBy countBy checkOf
-  bare-untaken on = untaken (lent starts ends count) (bareOf s html checks (lent starts ends count) key at) (rw (on, fresh, short))
+  bare-untaken on = untaken (keysLent starts ends count) (bareOf s html checks (keysLent starts ends count) key at) (rw (on, fresh, short))
 
 -- A step that is taken keeps the keys inside the tag, and the tables as long as they were.
 pub record Held (s : List ℕ) (before after : Keys) : Type 0 where
@@ -96,7 +96,7 @@ module _ (s : List ℕ) (checks : Bool) (keys : Keys) (i : KeysIn (keys .starts)
         (λ key eq c e b a v h. held-by key c (b .some) (omega (arith, b .ahead, b .inside)) v h)
 
 -- With room for every key every step is taken.
-module _ (s : List ℕ) (checks : Bool) (keys : Keys) (i : KeysIn (keys .starts) (keys .ends) (keys .count) (length s)) (r : Room checks (keys .starts) (keys .ends)) where
+module _ (s : List ℕ) (checks : Bool) (keys : Keys) (i : KeysIn (keys .starts) (keys .ends) (keys .count) (length s)) (r : KeyRoom checks (keys .starts) (keys .ends)) where
   held : holds (keys .starts) (keys .ends) (keys .count) ≡ true
   held = facts-hold (keys .starts) (keys .ends) (keys .count) (i .placed .0) (i .placed .1)
 
@@ -121,15 +121,15 @@ module _ (s : List ℕ) (checks : Bool) (keys : Keys) (i : KeysIn (keys .starts)
   unfolding takenOn
   room-takes html place r starts ends e = e ∙ rw (step-held html place)
 
-  pub room-made : (html : Bool) (place : Place) (r : Stepped) (o : Outcome) (starts ends : List ℕ) → taken r starts ends (keys .count) ≡ takenOn keys (stepOf s html checks keys place) → r ≡ Made o → made o starts ends ≡ stepOf s html checks keys place
+  pub room-made : (html : Bool) (place : Place) (r : Stepped) (o : Advance) (starts ends : List ℕ) → taken r starts ends (keys .count) ≡ takenOn keys (stepOf s html checks keys place) → r ≡ Made o → advanced o starts ends ≡ stepOf s html checks keys place
   room-made html place r o starts ends e m =
       let z = room-takes html place r starts ends e in
-      let w : taken r starts ends (keys .count) ≡ Took (made o starts ends) = ap (λ (x : Stepped). taken x starts ends (keys .count)) m in
+      let w : taken r starts ends (keys .count) ≡ Took (advanced o starts ends) = ap (λ (x : Stepped). taken x starts ends (keys .count)) m in
       cc
 
   pub room-never : (html : Bool) (place : Place) (r : Stepped) (starts ends : List ℕ) → taken r starts ends (keys .count) ≡ takenOn keys (stepOf s html checks keys place) → r ≡ LendMore → ⊥
   room-never html place r starts ends e m =
       let z = room-takes html place r starts ends e in
-      let w : taken r starts ends (keys .count) ≡ Short (lent starts ends (keys .count)) = ap (λ (x : Stepped). taken x starts ends (keys .count)) m in
+      let w : taken r starts ends (keys .count) ≡ Short (keysLent starts ends (keys .count)) = ap (λ (x : Stepped). taken x starts ends (keys .count)) m in
       let n : _≡_ {A = ℕ} 0 1 = cc in
       omega arith

@@ -2,11 +2,11 @@
 -- answer, and those from the place that it leaves.
 use Prim.Native.Nat.{ℕ, suc, _<_}
 use mathlib.Core.Path.{_≡_, refl, sym, ap, subst, _∙_}
-use mathlib.Core.Bool.{Bool, true, false}
+use mathlib.Core.Bool.{Bool, true, false, false≢true}
 use mathlib.Core.List.{List}
 use native.Mathlib.Numerals.{add-one}
 use lib.ListN.{length}
-use Rattle.tag_keys.specs.Keys.{checkedOf, writtenBy, countBy}
+use Rattle.tag_keys.specs.Keys.{KeysIn, KeyRoom, checkedOf, writtenBy, countBy}
 use Rattle.tag_keys.proofs.Laws.{in-table, keys-none}
 use Rattle.tag_step.specs.declared.Span.{Span}
 use Rattle.tag_step.specs.declared.Place.{Place}
@@ -17,11 +17,16 @@ use Rattle.tag_step.specs.declared.KeyRead.{KeyRead}
 use Rattle.tag_step.specs.declared.KeyRead.the-variants.{NoKey, Bare, Valued}
 use Rattle.tag_step.specs.declared.Answer.{Answer}
 use Rattle.tag_step.specs.declared.Found.{Found}
+use Rattle.tag_step.specs.declared.Advance.{Advance}
+use Rattle.tag_step.specs.declared.Stepped.{Stepped}
+use Rattle.tag_step.specs.declared.Stepped.the-variants.{Made, LendMore}
 use Rattle.tag_step.specs.declared.Step.{Step}
 use Rattle.tag_step.specs.Read.{found, recoverOf, keyAt}
-use Rattle.tag_step.specs.Next.{Keys, Reading, reading, checkOf, keptBy, bareBy, bareTo, bareOf, valuedBy, valuedTo, valuedOf, readKey, readAt, stepFrom, stepOf, placeGood, keysOf, lentState, stateGood, noKeys, leaves, nextOf, standing, uncheckedOf, opened}
+use Rattle.tag_step.specs.Next.{Keys, Reading, Stands, reading, keysLent, advanced, checkOf, keptBy, bareBy, bareTo, bareOf, valuedBy, valuedTo, valuedOf, readKey, readAt, stepFrom, stepOf, placeGood, keysOf, lentState, stateGood, noKeys, leaves, nextOf, standing, uncheckedOf, opened}
+use Rattle.tag_step.specs.Lent.{taken, stepIn}
 use Rattle.tag_step.specs.Run.{isEnd, consUnless, runLent, runFrom, answersFrom, answersOf}
 use Rattle.tag_step.proofs.Whole.{next-steps, recover-in}
+use Rattle.tag_step.proofs.Taken.{room-made, room-never}
 use Rattle.tag_step.proofs.Good.{Sized, step-stands, opened-sized}
 use Rattle.tag_step.proofs.Run.{lent-resumes, from-more, left-all, todo, todo-falls, answers-resume}
 
@@ -76,9 +81,29 @@ module _ (s : List ℕ) (html : Bool) (place : Place) (stands : placeGood s plac
   unfolding uncheckedOf leaves keysOf
   unchecked-is = ap (λ (y : Step). found (y .answer) (y .state .place)) (next-steps s (standing place html false) (standing-good false) (stepOf s html false noKeys place) refl)
 
-  -- what the code makes, on any tables
-  pub unchecked-steps : (keys : Keys) (x : Reading) → x ≡ stepOf s html false keys place → found (x .answer) (x .place) ≡ uncheckedOf s html place
+  -- what a step makes on any tables
+  unchecked-steps : (keys : Keys) (x : Reading) → x ≡ stepOf s html false keys place → found (x .answer) (x .place) ≡ uncheckedOf s html place
   unchecked-steps keys x e = ap (λ (r : Reading). found (r .answer) (r .place)) (e ∙ off-step s html keys noKeys place) ∙ unchecked-is
+
+  -- what `step_in` does on tables with no recorded keys: it asks for nothing else, and is always taken
+  module _ (starts ends : List ℕ) where
+    none : KeysIn starts ends 0 (length s)
+    none = keys-none starts ends (length s)
+
+    no-room : KeyRoom false starts ends
+    no-room = record { room = λ on. absurd (false≢true on) }
+
+    pub unchecked-asks : Stands s (keysLent starts ends 0) place
+    unchecked-asks = record { inside = none; stands = stands }
+
+    module _ (r : Stepped) (starts' ends' : List ℕ) (e : taken r starts' ends' 0 ≡ stepIn s html false (keysLent starts ends 0) place) where
+      pub unchecked-made : (o : Advance) → r ≡ Made o → found (o .answer) (o .place) ≡ uncheckedOf s html place
+      unchecked-made o m =
+          unchecked-steps (keysLent starts ends 0) (advanced o starts' ends')
+          (room-made s false (keysLent starts ends 0) none no-room html place r o starts' ends' e m)
+
+      pub unchecked-never : r ≡ LendMore → ⊥
+      unchecked-never m = room-never s false (keysLent starts ends 0) none no-room html place r starts' ends' e m
 
   -- the place that is left is good again
   pub unchecked-stands : placeGood s (uncheckedOf s html place .place) ≡ true

@@ -1,20 +1,20 @@
 -- The whole step, a law for each `return`, and where a key that was read lies.
 use Prim.Native.Nat.{ℕ, _+_, _≤_, _<_}
-use mathlib.Core.Path.{_≡_, refl, sym, ap, subst, _∙_}
-use mathlib.Core.Bool.{Bool, true, false, _&&_, false≢true}
+use mathlib.Core.Path.{_≡_, sym, subst, _∙_}
+use mathlib.Core.Bool.{Bool, true, false}
 use mathlib.Core.List.{List}
 use native.Mathlib.Nat.{le-of-lt}
 use native.Mathlib.Omega.{arith}
-use lib.ListN.{length, getD, replicate}
+use lib.ListN.{length, getD}
 use lib.Dec.{eqb, ltb, leb}
-use borrow.Author.Tests.{le-leb, lt-leb, ltb-true, leb-true}
+use borrow.Author.Tests.{ltb-true, leb-true}
 use Rattle.scan.specs.First.{firstFrom, pick}
 use Rattle.scan.specs.Bytes.{isSpace, notSpace, endsKey}
 use Rattle.scan.proofs.Laws.{first, picks}
 use Rattle.scan.proofs.Bytes.{both}
 use Rattle.tag_keys.specs.declared.Checked.{Checked}
 use Rattle.tag_keys.specs.declared.Checked.the-variants.{Fresh, Same, Full}
-use Rattle.tag_keys.specs.Keys.{capacity, Room, tableGood, checkedOf, writtenBy, countBy}
+use Rattle.tag_keys.specs.Keys.{tableGood, checkedOf, writtenBy, countBy}
 use Rattle.tag_keys.proofs.Laws.{table-in}
 use Rattle.tag_step.specs.declared.Span.{Span}
 use Rattle.tag_step.specs.declared.Place.{Place}
@@ -24,14 +24,14 @@ use Rattle.tag_step.specs.declared.Start.the-variants.{From, Ended}
 use Rattle.tag_step.specs.declared.KeyRead.{KeyRead}
 use Rattle.tag_step.specs.declared.KeyRead.the-variants.{NoKey, Bare, Valued}
 use Rattle.tag_step.specs.declared.Answer.{Answer}
-use Rattle.tag_step.specs.declared.Answer.the-variants.{End, Empty, ExpectedEq, Duplicated, KeyTableFull, BadState}
+use Rattle.tag_step.specs.declared.Answer.the-variants.{End, Empty, ExpectedEq, Duplicated, KeyTableFull}
 use Rattle.tag_step.specs.declared.Found.{Found}
-use Rattle.tag_step.specs.declared.Outcome.{Outcome}
+use Rattle.tag_step.specs.declared.Advance.{Advance}
 use Rattle.tag_step.specs.declared.IterState.{IterState}
 use Rattle.tag_step.specs.Read.{found, isAt, skipTo, skipOf, recoverOf, keyEq, keyTo, keyFrom, keyAt, valueAt}
-use Rattle.tag_step.specs.Next.{Keys, Reading, Ready, reading, lent, made, checkOf, keptBy, placeAt, bareBy, bareTo, bareOf, valuedBy, valuedTo, valuedOf, readKey, readAt, stepFrom, stepOf, placeGood, goodOf, keysOf, lentState, stateGood, noKeys, badReading, leaves, nextOf, roomFor, lentGood, cleared, nextIn}
+use Rattle.tag_step.specs.Next.{Keys, Reading, Stands, reading, keysLent, advanced, checkOf, keptBy, placeAt, bareBy, bareTo, bareOf, valuedBy, valuedTo, valuedOf, readKey, readAt, stepFrom, stepOf, placeGood, goodOf, keysOf, lentState, stateGood, badReading, leaves, nextOf}
 
-abbrev outcome : Answer → Place → ℕ → Outcome
+abbrev outcome : Answer → Place → ℕ → Advance
 outcome a p n = record { answer = a; place = p; count = n }
 
 -- a bare key in XML mode
@@ -45,27 +45,27 @@ module _ (s : List ℕ) (html checks : Bool) (starts ends : List ℕ) (count : �
     (in-starts : starts' ≡ writtenBy checks v starts count (key .start))
     (in-ends : ends' ≡ writtenBy checks v ends count (key .end)) where
   module _ (on : html ≡ true) (p : Place) (there : p ≡ placeAt s at) where
-    pub bare-fresh : (n : ℕ) → v ≡ Fresh n → made (outcome (Empty key) p n) starts' ends' ≡ bareOf s html checks (lent starts ends count) key at
+    pub bare-fresh : (n : ℕ) → v ≡ Fresh n → advanced (outcome (Empty key) p n) starts' ends' ≡ bareOf s html checks (keysLent starts ends count) key at
     unfolding bareOf bareTo bareBy keptBy checkOf countBy
     bare-fresh n e = rw (on, sym verdict, in-starts, in-ends, e, there)
 
-    pub bare-same : (q : ℕ) → v ≡ Same q → made (outcome (Duplicated (key .start) q) p count) starts' ends' ≡ bareOf s html checks (lent starts ends count) key at
+    pub bare-same : (q : ℕ) → v ≡ Same q → advanced (outcome (Duplicated (key .start) q) p count) starts' ends' ≡ bareOf s html checks (keysLent starts ends count) key at
     unfolding bareOf bareTo bareBy keptBy checkOf countBy
     bare-same q e = rw (on, sym verdict, in-starts, in-ends, e, there)
 
-    pub bare-full : v ≡ Full → made (outcome (KeyTableFull (key .start)) Done count) starts' ends' ≡ bareOf s html checks (lent starts ends count) key at
+    pub bare-full : v ≡ Full → advanced (outcome (KeyTableFull (key .start)) Done count) starts' ends' ≡ bareOf s html checks (keysLent starts ends count) key at
     unfolding bareOf bareTo bareBy keptBy checkOf countBy
     bare-full e = rw (on, sym verdict, in-starts, in-ends, e)
 
-  pub valued-fresh : (n : ℕ) → v ≡ Fresh n → (x : Found) → x ≡ valueAt s html key at → made (outcome (x .answer) (x .place) n) starts' ends' ≡ valuedOf s html checks (lent starts ends count) key at
+  pub valued-fresh : (n : ℕ) → v ≡ Fresh n → (x : Found) → x ≡ valueAt s html key at → advanced (outcome (x .answer) (x .place) n) starts' ends' ≡ valuedOf s html checks (keysLent starts ends count) key at
   unfolding valuedOf valuedTo valuedBy keptBy checkOf countBy
   valued-fresh n e x f = rw (sym verdict, in-starts, in-ends, e, f)
 
-  pub valued-same : (q : ℕ) → v ≡ Same q → made (outcome (Duplicated (key .start) q) (SkipEqValue at) count) starts' ends' ≡ valuedOf s html checks (lent starts ends count) key at
+  pub valued-same : (q : ℕ) → v ≡ Same q → advanced (outcome (Duplicated (key .start) q) (SkipEqValue at) count) starts' ends' ≡ valuedOf s html checks (keysLent starts ends count) key at
   unfolding valuedOf valuedTo valuedBy keptBy checkOf countBy
   valued-same q e = rw (sym verdict, in-starts, in-ends, e)
 
-  pub valued-full : v ≡ Full → made (outcome (KeyTableFull (key .start)) Done count) starts' ends' ≡ valuedOf s html checks (lent starts ends count) key at
+  pub valued-full : v ≡ Full → advanced (outcome (KeyTableFull (key .start)) Done count) starts' ends' ≡ valuedOf s html checks (keysLent starts ends count) key at
   unfolding valuedOf valuedTo valuedBy keptBy checkOf countBy
   valued-full e = rw (sym verdict, in-starts, in-ends, e)
 
@@ -93,72 +93,19 @@ module _ (s : List ℕ) (html checks : Bool) (keys : Keys) (place : Place) where
     unfolding readAt readKey
     step-valued key eq e = sym (sym step-reads ∙ rw e)
 
--- `next` on lent tables
-
--- what is good: a law for each `return` of `good_in`
+-- What is good: a law for each `return` of `good_in`.
 module _ (s starts ends : List ℕ) (count : ℕ) (place : Place) where
-  pub good-keys : tableGood (length s) starts ends count ≡ false → false ≡ goodOf s (lent starts ends count) place
+  pub good-keys : tableGood (length s) starts ends count ≡ false → false ≡ goodOf s (keysLent starts ends count) place
   good-keys k = rw k
 
-  pub good-place : tableGood (length s) starts ends count ≡ true → placeGood s place ≡ goodOf s (lent starts ends count) place
+  pub good-place : tableGood (length s) starts ends count ≡ true → placeGood s place ≡ goodOf s (keysLent starts ends count) place
   good-place k = rw k
 
--- and of `state_good`
-module _ (s : List ℕ) (checks : Bool) (starts ends : List ℕ) (count : ℕ) (place : Place) where
-  pub good-not : goodOf s (lent starts ends count) place ≡ false → false ≡ lentGood s checks (lent starts ends count) place
-  unfolding lentGood
-  good-not g = rw g
-
-  module _ (g : goodOf s (lent starts ends count) place ≡ true) where
-    pub good-off : checks ≡ false → true ≡ lentGood s checks (lent starts ends count) place
-    unfolding lentGood roomFor
-    good-off off = rw (g, off)
-
-    module _ (on : checks ≡ true) where
-      pub good-starts : length starts < capacity → false ≡ lentGood s checks (lent starts ends count) place
-      unfolding lentGood roomFor
-      good-starts h = rw (g, on, lt-leb capacity (length starts) h)
-
-      pub good-ends : capacity ≤ length starts → leb capacity (length ends) ≡ lentGood s checks (lent starts ends count) place
-      unfolding lentGood roomFor
-      good-ends h = rw (g, on, le-leb capacity (length starts) h)
-
-room-in : (checks : Bool) (keys : Keys) → roomFor checks keys ≡ true → Room checks (keys .starts) (keys .ends)
-unfolding roomFor
-room-in true keys h =
-    let b = both (leb capacity (length (keys .starts))) (leb capacity (length (keys .ends))) h in
-    record { room = λ _. (leb-true capacity (length (keys .starts)) (b .0), leb-true capacity (length (keys .ends)) (b .1)) }
-room-in false keys h = record { room = λ on. absurd (false≢true on) }
-
--- good tables are ready for a step
-pub in-ready : (s : List ℕ) (checks : Bool) (keys : Keys) (place : Place) → lentGood s checks keys place ≡ true → Ready s checks keys place
-unfolding lentGood
-in-ready s checks keys place good =
-    let t = tableGood (length s) (keys .starts) (keys .ends) (keys .count) in
-    let a = both (t && placeGood s place) (roomFor checks keys) good in
-    let b = both t (placeGood s place) (a .0) in
-    record { inside = table-in (length s) (keys .starts) (keys .ends) (keys .count) (b .0); room = room-in checks keys (a .1); stands = b .1 }
-
-module _ (s : List ℕ) (html checks : Bool) (keys : Keys) (place : Place) where
-  pub in-steps : lentGood s checks keys place ≡ true → stepOf s html checks keys place ≡ nextIn s html checks keys place
-  unfolding nextIn
-  in-steps good = rw good
-
-  pub in-bad : lentGood s checks keys place ≡ false → (starts ends : List ℕ) → starts ≡ replicate (length (keys .starts)) 0 → ends ≡ replicate (length (keys .ends)) 0 → made (outcome BadState Done 0) starts ends ≡ nextIn s html checks keys place
-  unfolding nextIn cleared
-  in-bad bad starts ends x y = rw (bad, x, y)
-
--- with 256 places there is room, and what is good is what a state says
-pub sized-good : (s : List ℕ) (checks : Bool) (keys : Keys) (place : Place) → length (keys .starts) ≡ capacity → length (keys .ends) ≡ capacity → (tableGood (length s) (keys .starts) (keys .ends) (keys .count) && placeGood s place) ≡ lentGood s checks keys place
-unfolding lentGood roomFor
-sized-good s checks keys place x y = and-room checks (tableGood (length s) (keys .starts) (keys .ends) (keys .count) && placeGood s place) _ (rw (le-leb capacity (length (keys .starts)) (omega arith), le-leb capacity (length (keys .ends)) (omega arith))) where
-  and-room : (c t r : Bool) → r ≡ true → t ≡ (t && pick c r true)
-  and-room c true r e = sym (picks (λ (b : Bool). b ≡ true) c (λ _. e) (λ _. refl))
-  and-room c false r e = refl
-
-pub next-in : (s : List ℕ) (st : IterState) → length (st .starts) ≡ capacity → length (st .ends) ≡ capacity → leaves st (nextIn s (st .html) (st .«check_duplicates») (keysOf st) (st .place)) ≡ nextOf s st
-unfolding nextOf nextIn stateGood keysOf badReading noKeys cleared
-next-in s st x y = rw (sym (sized-good s (st .«check_duplicates») (keysOf st) (st .place) x y), x, y)
+-- a good state stands, as `step_in` asks
+pub good-stands : (s : List ℕ) (keys : Keys) (place : Place) → goodOf s keys place ≡ true → Stands s keys place
+good-stands s keys place g =
+    let b = both (tableGood (length s) (keys .starts) (keys .ends) (keys .count)) (placeGood s place) g in
+    record { inside = table-in (length s) (keys .starts) (keys .ends) (keys .count) (b .0); stands = b .1 }
 
 -- `next`
 
@@ -171,16 +118,6 @@ module _ (s : List ℕ) (st : IterState) where
     pub next-steps : (x : Reading) → x ≡ stepOf s (st .html) (st .«check_duplicates») (keysOf st) (st .place) → leaves st x ≡ nextOf s st
     unfolding nextOf
     next-steps x e = rw (good, e)
-
-    -- a good state of the code's own has room in its tables
-    pub next-ready : length (st .starts) ≡ capacity → length (st .ends) ≡ capacity → Ready s (st .«check_duplicates») (keysOf st) (st .place)
-    unfolding stateGood keysOf
-    next-ready x y = in-ready s (st .«check_duplicates») (keysOf st) (st .place) (sym (sized-good s (st .«check_duplicates») (keysOf st) (st .place) x y) ∙ good)
-
--- A step on lent tables is a step of the iterator that they make.
-pub lent-step : (s : List ℕ) (place : Place) (html checks : Bool) (starts ends : List ℕ) (count : ℕ) → stateGood s (lentState place html checks starts ends count) ≡ true → (r : Outcome) (starts' ends' : List ℕ) → made r starts' ends' ≡ stepOf s html checks (lent starts ends count) place → record { answer = r .answer; state = lentState (r .place) html checks starts' ends' (r .count) } ≡ nextOf s (lentState place html checks starts ends count)
-unfolding leaves keysOf
-lent-step s place html checks starts ends count good r starts' ends' e = next-steps s (lentState place html checks starts ends count) good (made r starts' ends') e
 
 -- where a key lies that was read from o on: x is its `=`, or what follows it
 pub record KeyBy (l o : ℕ) (key : Span) (x : ℕ) : Type 0 where
@@ -243,9 +180,3 @@ recover-in s (SkipEqValue o) = skip-in s (firstFrom isSpace s o)
 pub starts-in : (s : List ℕ) (p : Place) (o : ℕ) → recoverOf s p ≡ From o → o ≤ length s
 unfolding StartIn
 starts-in s p o e = subst (StartIn (length s)) e (recover-in s p)
-
--- What the contracts of `step_lent` and `next_lent` leave: one outcome, and one content of both tables.
-pub made-one : (x : Reading) (o p : Outcome) (starts ends starts' ends' : List ℕ) → made o starts ends ≡ x → made p starts' ends' ≡ x → (o ≡ p) × (starts ≡ starts') × (ends ≡ ends')
-made-one x o p starts ends starts' ends' a b =
-    let e : made o starts ends ≡ made p starts' ends' = a ∙ sym b in
-    (ap (λ (r : Reading). outcome (r .answer) (r .place) (r .keys .count)) e, ap (λ (r : Reading). r .keys .starts) e, ap (λ (r : Reading). r .keys .ends) e)

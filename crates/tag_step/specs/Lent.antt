@@ -1,11 +1,12 @@
 -- Key tables that a caller lends may be shorter than the capacity: places that are not lent are unused. Every rule is document
 -- 01's on the iterator that such tables are; a key that is due to be recorded past what is lent is not read, and the caller
 -- lends longer tables, with the recorded keys in their places, and goes on where it stopped.
-use Prim.Native.Nat.{ℕ, _-_}
+use Prim.Native.Nat.{ℕ}
 use mathlib.Core.Bool.{Bool, not}
-use mathlib.Core.List.{List, _++_}
-use lib.ListN.{length, take, replicate}
+use mathlib.Core.List.{List}
+use lib.ListN.{length, take}
 use Rattle.scan.specs.First.{pick}
+use Rattle.scan.specs.Lists.{padTo}
 use Rattle.tag_keys.specs.Keys.{capacity, holds}
 use Rattle.tag_step.specs.declared.IterState.{IterState}
 use Rattle.tag_step.specs.declared.Step.{Step}
@@ -13,17 +14,13 @@ use Rattle.tag_step.specs.declared.Stepped.{Stepped}
 use Rattle.tag_step.specs.declared.Stepped.the-variants.{Made, LendMore}
 use Rattle.tag_step.specs.declared.Span.{Span}
 use Rattle.tag_step.specs.declared.Place.{Place}
-use Rattle.tag_step.specs.Next.{Keys, Reading, lent, made, bareOf, valuedOf, stepOf, lentState, badReading, leaves, nextOf}
+use Rattle.tag_step.specs.Next.{Keys, Reading, keysLent, advanced, bareOf, valuedOf, stepOf, lentState, badReading, leaves, nextOf}
 
--- What stands in an unused place is never read, so that any content would do for those that are not lent: zeros, as 7 leaves
--- them.
-unfoldable pub padKeys : List ℕ → List ℕ
-padKeys t = t ++ replicate (capacity - length t) 0
-
--- the iterator that lent tables are
+-- The iterator that lent tables are. What stands in an unused place is never read, so that any content would do for those that
+-- are not lent: zeros, as 7 leaves them.
 unfoldable pub wholeOf : IterState → IterState
 wholeOf st =
-    lentState (st .place) (st .html) (st .«check_duplicates») (padKeys (st .starts)) (padKeys (st .ends)) (st .count)
+    lentState (st .place) (st .html) (st .«check_duplicates») (padTo capacity (st .starts)) (padTo capacity (st .ends)) (st .count)
 
 -- Its step. Tables of unequal lengths count as long as the shorter one, and a count past that is 7.
 unfoldable pub wholeNext : List ℕ → IterState → Step
@@ -46,8 +43,8 @@ pub data Taken : Type 0 where
   Short : Keys → Taken
 
 abbrev pub taken : Stepped → (starts ends : List ℕ) → ℕ → Taken
-taken (Made o) starts ends count = Took (made o starts ends)
-taken LendMore starts ends count = Short (lent starts ends count)
+taken (Made o) starts ends count = Took (advanced o starts ends)
+taken LendMore starts ends count = Short (keysLent starts ends count)
 
 -- A step that leaves more keys than the tables hold is not taken.
 unfoldable pub takenOn : Keys → Reading → Taken

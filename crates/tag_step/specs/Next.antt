@@ -5,11 +5,11 @@ use mathlib.Core.Path.{_≡_}
 use mathlib.Core.Bool.{Bool, true, false, _&&_}
 use mathlib.Core.List.{List}
 use lib.ListN.{length, replicate}
-use lib.Dec.{ltb, leb}
+use lib.Dec.{ltb}
 use Rattle.scan.specs.First.{pick}
 use Rattle.tag_keys.specs.declared.Checked.{Checked}
 use Rattle.tag_keys.specs.declared.Checked.the-variants.{Fresh, Same, Full}
-use Rattle.tag_keys.specs.Keys.{capacity, KeysIn, Room, tableGood, checkedOf, writtenBy, countBy}
+use Rattle.tag_keys.specs.Keys.{capacity, KeysIn, tableGood, checkedOf, writtenBy, countBy}
 use Rattle.tag_step.specs.declared.Span.{Span}
 use Rattle.tag_step.specs.declared.Place.{Place}
 use Rattle.tag_step.specs.declared.Place.the-variants.{Done, Next, SkipValue, SkipEqValue}
@@ -20,7 +20,7 @@ use Rattle.tag_step.specs.declared.KeyRead.the-variants.{NoKey, Bare, Va
 use Rattle.tag_step.specs.declared.Answer.{Answer}
 use Rattle.tag_step.specs.declared.Answer.the-variants.{End, Empty, ExpectedEq, Duplicated, KeyTableFull, BadState}
 use Rattle.tag_step.specs.declared.Found.{Found}
-use Rattle.tag_step.specs.declared.Outcome.{Outcome}
+use Rattle.tag_step.specs.declared.Advance.{Advance}
 use Rattle.tag_step.specs.declared.IterState.{IterState}
 use Rattle.tag_step.specs.declared.Step.{Step}
 use Rattle.tag_step.specs.Read.{found, isAt, recoverOf, keyAt, valueAt}
@@ -41,11 +41,11 @@ abbrev pub reading : Found → Keys → Reading
 reading x keys = record { answer = x .answer; place = x .place; keys = keys }
 
 -- lent tables with their count, and what a step on them has made once it returns
-abbrev pub lent : List ℕ → List ℕ → ℕ → Keys
-lent starts ends count = record { starts = starts; ends = ends; count = count }
+abbrev pub keysLent : List ℕ → List ℕ → ℕ → Keys
+keysLent starts ends count = record { starts = starts; ends = ends; count = count }
 
-abbrev pub made : Outcome → List ℕ → List ℕ → Reading
-made o starts ends = record { answer = o .answer; place = o .place; keys = lent starts ends (o .count) }
+abbrev pub advanced : Advance → List ℕ → List ℕ → Reading
+advanced o starts ends = record { answer = o .answer; place = o .place; keys = keysLent starts ends (o .count) }
 
 -- The check of a key.
 
@@ -132,24 +132,18 @@ lentState place html checks starts ends count =
     record { place = place; html = html; «check_duplicates» = checks; starts = starts; ends = ends; count = count }
 
 unfoldable pub keysOf : IterState → Keys
-keysOf st = lent (st .starts) (st .ends) (st .count)
+keysOf st = keysLent (st .starts) (st .ends) (st .count)
 
 -- There are at most 256 keys, each not empty and inside the tag, and the place is good: whatever the checks say.
 abbrev pub goodOf : List ℕ → Keys → Place → Bool
 goodOf s keys place = tableGood (length s) (keys .starts) (keys .ends) (keys .count) && placeGood s place
 
 unfoldable pub stateGood : List ℕ → IterState → Bool
-stateGood s st = goodOf s (lent (st .starts) (st .ends) (st .count)) (st .place)
+stateGood s st = goodOf s (keysLent (st .starts) (st .ends) (st .count)) (st .place)
 
 -- A step on lent tables asks for what a good state has.
 pub record Stands (s : List ℕ) (keys : Keys) (place : Place) : Type 0 where
   pub inside : KeysIn (keys .starts) (keys .ends) (keys .count) (length s)
-  pub stands : placeGood s place ≡ true
-
--- and on tables of full size for room while checks are on
-pub record Ready (s : List ℕ) (checks : Bool) (keys : Keys) (place : Place) : Type 0 where
-  pub inside : KeysIn (keys .starts) (keys .ends) (keys .count) (length s)
-  pub room : Room checks (keys .starts) (keys .ends)
   pub stands : placeGood s place ≡ true
 
 -- no recorded keys, every place of the tables zero
@@ -181,26 +175,6 @@ leaves st x =
 unfoldable pub nextOf : List ℕ → IterState → Step
 nextOf s st =
     leaves st (pick (stateGood s st) (stepOf s (st .html) (st .«check_duplicates») (keysOf st) (st .place)) badReading)
-
--- `next` on lent tables, of any number of places.
-
--- While checks are on, each table has a place for every key that may be recorded.
-unfoldable pub roomFor : Bool → Keys → Bool
-roomFor checks keys = pick checks (leb capacity (length (keys .starts)) && leb capacity (length (keys .ends))) true
-
--- Tables without that room are no state of an iterator: 7 is for them too. A state of its own always has it.
-unfoldable pub lentGood : List ℕ → Bool → Keys → Place → Bool
-lentGood s checks keys place =
-    (tableGood (length s) (keys .starts) (keys .ends) (keys .count) && placeGood s place) && roomFor checks keys
-
--- 7 leaves all zero.
-unfoldable pub cleared : Keys → Keys
-cleared keys = lent (replicate (length (keys .starts)) 0) (replicate (length (keys .ends)) 0) 0
-
--- On tables of 256 places this is `nextOf` (`next-in`, proofs/Whole).
-unfoldable pub nextIn : List ℕ → Bool → Bool → Keys → Place → Reading
-nextIn s html checks keys place =
-    pick (lentGood s checks keys place) (stepOf s html checks keys place) (reading (found BadState Done) (cleared keys))
 
 -- an iterator that stands at a place, with no recorded keys
 abbrev pub standing : Place → Bool → Bool → IterState

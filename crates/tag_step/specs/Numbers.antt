@@ -1,6 +1,8 @@
 -- The number of document 01 for each answer, and its values in the table's order.
 use Prim.Native.Nat.{ℕ}
 use mathlib.Core.List.{List, [], _∷_}
+use Rattle.tag_step.specs.declared.IterState.{IterState}
+use Rattle.tag_step.specs.declared.Step.{Step}
 use Rattle.tag_step.specs.declared.Answer.{Answer}
 use Rattle.tag_step.specs.declared.Answer.the-variants.{End, DoubleQ, SingleQ, Unquoted, Empty, ExpectedEq, ExpectedValue, UnquotedValue, ExpectedQuote, Duplicated, KeyTableFull, BadState}
 
@@ -19,3 +21,7 @@ numbersOf (ExpectedQuote l q) = 4 ∷ l ∷ q ∷ []
 numbersOf (Duplicated this earlier) = 5 ∷ this ∷ earlier ∷ []
 numbersOf (KeyTableFull this) = 6 ∷ this ∷ []
 numbersOf BadState = 7 ∷ []
+
+-- An answer by its numbers, beside the state that it leaves: what a call for users promises.
+abbrev pub numberedStep : Step → List ℕ × IterState
+numberedStep x = (numbersOf (x .answer), x .state)

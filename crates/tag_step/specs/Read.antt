@@ -104,12 +104,12 @@ unquotedTo key v e = found (Unquoted key (span v e)) (Next e)
 unfoldable pub otherOf : List ℕ → Bool → Span → ℕ → Found
 otherOf s html key v = pick html (unquotedTo key v (firstFrom isSpace s v)) (found (UnquotedValue v) (SkipValue v))
 
-unfoldable pub valueIn : List ℕ → Bool → Span → ℕ → ℕ → Found
-valueIn s html key v b = pick (isQuote b) (quotedOf s b key (v + 1)) (otherOf s html key v)
+unfoldable pub valueBy : List ℕ → Bool → Span → ℕ → ℕ → Found
+valueBy s html key v b = pick (isQuote b) (quotedOf s b key (v + 1)) (otherOf s html key v)
 
 -- Nothing after the `=` is 2, and leaves done.
 unfoldable pub valueFrom : List ℕ → Bool → Span → ℕ → Found
-valueFrom s html key v = pick (ltb v (length s)) (valueIn s html key v (getD s v 0)) (found (ExpectedValue (length s)) Done)
+valueFrom s html key v = pick (ltb v (length s)) (valueBy s html key v (getD s v 0)) (found (ExpectedValue (length s)) Done)
 
 -- The value is what stands after the `=` and whitespace.
 unfoldable pub valueAt : List ℕ → Bool → Span → ℕ → Found

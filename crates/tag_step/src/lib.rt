@@ -1,8 +1,8 @@
 // The attribute iterator over the bytes of a start tag.
 //
 // Ports `IterState` of src/events/attributes.rs, with `with_checks` of `Attributes`. What it answers is `nextOf` of
-// specs/Next.antt, for every tag and every state. The work is done on tables that the caller lends (`step_lent`, and
-// `next_lent` with the test of refusal 7 before it); `IterState::next` lends its own.
+// specs/Next.antt, for every tag and every state. The work is done on tables that the caller lends (`step_in`,
+// after the test of refusal 7, `good_in`); `IterState::next` lends its own.
 //
 // The names are the crate's. Its `keys: Vec<Range<usize>>` is two tables and a count here, its `Option` and `Result` an
 // enum for each kind of answer. Documents number the refusals: `numbersOf` (specs/Numbers.antt) gives an answer's number
@@ -11,8 +11,9 @@ ghost use mathlib.Core.Path.{_≡_};
 ghost use mathlib.Core.Bool.{true};
 ghost use Prim.Native.Nat.{_+_, _^_, _<_, _≤_};
 ghost use lib.ListN.{length, replicate};
+ghost use Rattle.tag_step.specs.Numbers.{numberedStep};
 ghost use Rattle.tag_step.specs.Read.{isQuote, skipOf, skipEqValueOf, recoverOf, keyAt, closedOf, quotedOf, valueAt};
-ghost use Rattle.tag_step.specs.Next.{Stands, Ready, lent, made, placeAt, placeGood, goodOf, stepOf, lentGood, nextIn, nextOf, uncheckedOf, opened, withChecks};
+ghost use Rattle.tag_step.specs.Next.{Stands, keysLent, placeAt, placeGood, goodOf, nextOf, uncheckedOf, opened, withChecks};
 ghost use Rattle.tag_step.specs.Lent.{taken, bareIn, valuedIn, stepIn};
 ghost use Rattle.tag_keys.specs.Keys.{KeysIn};
 use tag_keys::CAPACITY;
@@ -102,7 +103,7 @@ pub struct Found {
 }
 
 // What a step on lent tables makes: the answer, the place that it leaves, and how many keys are recorded.
-pub struct Outcome {
+pub struct Advance {
     pub answer: Answer,
     pub place: Place,
     pub count: usize,
@@ -110,7 +111,7 @@ pub struct Outcome {
 
 // What a step on tables of any length gives.
 pub enum Stepped {
-    Made(Outcome),
+    Made(Advance),
     // The next key is due to be recorded, and no place is lent for it: nothing is changed. The caller lends longer tables,
     // with the recorded keys in their places, and goes on.
     LendMore,
@@ -332,35 +333,12 @@ pub fn good_in<'a>(
     count: usize,
     place: Place,
 ) -> bool
-    ensures { λ r. ⌜ r ≡ goodOf (now (tag .entry)) (lent (now (starts .entry)) (now (ends .entry)) count) place ⌝ }
+    ensures { λ r. ⌜ r ≡ goodOf (now (tag .entry)) (keysLent (now (starts .entry)) (now (ends .entry)) count) place ⌝ }
 {
     if !tag_keys::keys_good(tag.len(), starts, ends, count) {
         return false;
     }
     place_good(tag, place)
-}
-
-// The same of tables that have to be of full size while checks are on.
-pub fn state_good<'a>(
-    tag: &[u8],
-    starts: &'a [usize],
-    ends: &'a [usize],
-    checks: bool,
-    count: usize,
-    place: Place,
-) -> bool
-    ensures { λ r. ⌜ r ≡ lentGood (now (tag .entry)) checks (lent (now (starts .entry)) (now (ends .entry)) count) place ⌝ }
-{
-    if !good_in(tag, starts, ends, count, place) {
-        return false;
-    }
-    if !checks {
-        return true;
-    }
-    if starts.len() < CAPACITY {
-        return false;
-    }
-    CAPACITY <= ends.len()
 }
 
 // A key with no value: `IterState::key_only`. HTML mode checks it as any other; XML mode refuses it and does not.
@@ -380,11 +358,11 @@ fn key_only<'a>(
 ) -> Stepped
     requires { ⌜ KeysIn (now starts) (now ends) count (length (now tag)) ⌝ }
     requires { ⌜ (key .start < key .end) × (key .end ≤ length (now tag)) ⌝ }
-    ensures { λ r. ⌜ taken r (now (starts .exit)) (now (ends .exit)) count ≡ bareIn (now (tag .entry)) html checks (lent (now (starts .entry)) (now (ends .entry)) count) key offset ⌝ }
+    ensures { λ r. ⌜ taken r (now (starts .exit)) (now (ends .exit)) count ≡ bareIn (now (tag .entry)) html checks (keysLent (now (starts .entry)) (now (ends .entry)) count) key offset ⌝ }
 {
     let place = place_at(tag, offset);
     if !html {
-        return Stepped::Made(Outcome {
+        return Stepped::Made(Advance {
             answer: Answer::ExpectedEq(offset),
             place: place,
             count: count,
@@ -396,18 +374,18 @@ fn key_only<'a>(
                 return Stepped::LendMore;
             }
             tag_keys::record_key(starts, ends, checks, count, key.start, key.end);
-            Stepped::Made(Outcome {
+            Stepped::Made(Advance {
                 answer: Answer::Empty(key),
                 place: place,
                 count: more,
             })
         }
-        Checked::Same(earlier) => Stepped::Made(Outcome {
+        Checked::Same(earlier) => Stepped::Made(Advance {
             answer: Answer::Duplicated(key.start, earlier),
             place: place,
             count: count,
         }),
-        Checked::Full => Stepped::Made(Outcome {
+        Checked::Full => Stepped::Made(Advance {
             answer: Answer::KeyTableFull(key.start),
             place: Place::Done,
             count: count,
@@ -429,7 +407,7 @@ fn key_valued<'a>(
     requires { ⌜ KeysIn (now starts) (now ends) count (length (now tag)) ⌝ }
     requires { ⌜ (key .start < key .end) × (key .end ≤ length (now tag)) ⌝ }
     requires { ⌜ eq < length (now tag) ⌝ }
-    ensures { λ r. ⌜ taken r (now (starts .exit)) (now (ends .exit)) count ≡ valuedIn (now (tag .entry)) html checks (lent (now (starts .entry)) (now (ends .entry)) count) key eq ⌝ }
+    ensures { λ r. ⌜ taken r (now (starts .exit)) (now (ends .exit)) count ≡ valuedIn (now (tag .entry)) html checks (keysLent (now (starts .entry)) (now (ends .entry)) count) key eq ⌝ }
 {
     match tag_keys::check_for_duplicates(tag, starts, ends, checks, count, key.start, key.end) {
         Checked::Fresh(more) => {
@@ -440,18 +418,18 @@ fn key_valued<'a>(
             let value = read_value(tag, html, key, eq);
             let answer = value.answer;
             let place = value.place;
-            Stepped::Made(Outcome {
+            Stepped::Made(Advance {
                 answer: answer,
                 place: place,
                 count: more,
             })
         }
-        Checked::Same(earlier) => Stepped::Made(Outcome {
+        Checked::Same(earlier) => Stepped::Made(Advance {
             answer: Answer::Duplicated(key.start, earlier),
             place: Place::SkipEqValue(eq),
             count: count,
         }),
-        Checked::Full => Stepped::Made(Outcome {
+        Checked::Full => Stepped::Made(Advance {
             answer: Answer::KeyTableFull(key.start),
             place: Place::Done,
             count: count,
@@ -470,48 +448,24 @@ pub fn step_in<'a>(
     count: usize,
     place: Place,
 ) -> Stepped
-    requires { ⌜ Stands (now tag) (lent (now starts) (now ends) count) place ⌝ }
-    ensures { λ r. ⌜ taken r (now (starts .exit)) (now (ends .exit)) count ≡ stepIn (now (tag .entry)) html checks (lent (now (starts .entry)) (now (ends .entry)) count) place ⌝ }
+    requires { ⌜ Stands (now tag) (keysLent (now starts) (now ends) count) place ⌝ }
+    ensures { λ r. ⌜ taken r (now (starts .exit)) (now (ends .exit)) count ≡ stepIn (now (tag .entry)) html checks (keysLent (now (starts .entry)) (now (ends .entry)) count) place ⌝ }
 {
     let Start::From(from) = recover(tag, place) else {
-        return Stepped::Made(Outcome {
+        return Stepped::Made(Advance {
             answer: Answer::End,
             place: place,
             count: count,
         });
     };
     match read_key(tag, from) {
-        KeyRead::NoKey => Stepped::Made(Outcome {
+        KeyRead::NoKey => Stepped::Made(Advance {
             answer: Answer::End,
             place: Place::Done,
             count: count,
         }),
         KeyRead::Bare(key, at) => key_only(tag, starts, ends, html, checks, count, key, at),
         KeyRead::Valued(key, eq) => key_valued(tag, starts, ends, html, checks, count, key, eq),
-    }
-}
-
-// The same on tables with room for every key, which never lack a place.
-pub fn step_lent<'a>(
-    tag: &[u8],
-    starts: &'a mut [usize],
-    ends: &'a mut [usize],
-    html: bool,
-    checks: bool,
-    count: usize,
-    place: Place,
-) -> Outcome
-    requires { ⌜ Ready (now tag) checks (lent (now starts) (now ends) count) place ⌝ }
-    ensures { λ r. ⌜ made r (now (starts .exit)) (now (ends .exit)) ≡ stepOf (now (tag .entry)) html checks (lent (now (starts .entry)) (now (ends .entry)) count) place ⌝ }
-{
-    let step = step_in(tag, starts, ends, html, checks, count, place);
-    match step {
-        Stepped::Made(made) => made,
-        Stepped::LendMore => Outcome {
-            answer: Answer::BadState,
-            place: place,
-            count: count,
-        },
     }
 }
 
@@ -523,12 +477,21 @@ pub fn step_unchecked(tag: &[u8], html: bool, place: Place) -> Found
 {
     let mut starts = [0usize; 0];
     let mut ends = [0usize; 0];
-    let made = step_lent(tag, &mut starts, &mut ends, html, false, 0, place);
-    let answer = made.answer;
-    let left = made.place;
-    Found {
-        answer: answer,
-        place: left,
+    let step = step_in(tag, &mut starts, &mut ends, html, false, 0, place);
+    match step {
+        Stepped::Made(made) => {
+            let answer = made.answer;
+            let left = made.place;
+            Found {
+                answer: answer,
+                place: left,
+            }
+        }
+        // Never: no key is due to be recorded.
+        Stepped::LendMore => Found {
+            answer: Answer::End,
+            place: place,
+        },
     }
 }
 
@@ -541,30 +504,6 @@ pub fn clear(table: &mut [usize])
         table[i] = 0;
         i += 1;
     }
-}
-
-// One step on lent tables, whatever they hold: refusal 7 comes first.
-pub fn next_lent<'a>(
-    tag: &[u8],
-    starts: &'a mut [usize],
-    ends: &'a mut [usize],
-    html: bool,
-    checks: bool,
-    count: usize,
-    place: Place,
-) -> Outcome
-    ensures { λ r. ⌜ made r (now (starts .exit)) (now (ends .exit)) ≡ nextIn (now (tag .entry)) html checks (lent (now (starts .entry)) (now (ends .entry)) count) place ⌝ }
-{
-    if !state_good(tag, starts, ends, checks, count, place) {
-        clear(starts);
-        clear(ends);
-        return Outcome {
-            answer: Answer::BadState,
-            place: Place::Done,
-            count: 0,
-        };
-    }
-    step_lent(tag, starts, ends, html, checks, count, place)
 }
 
 impl IterState {
@@ -592,14 +531,35 @@ impl IterState {
 
     // One answer, and the state after it: `IterState::next`, for any state whatever.
     pub fn next(self, tag: &[u8]) -> Step
-        ensures { λ r. ⌜ r ≡ nextOf (now (tag .entry)) self ⌝ }
+        ensures { λ r. ⌜ numberedStep r ≡ numberedStep (nextOf (now (tag .entry)) self) ⌝ }
     {
         let html = self.html;
         let checks = self.check_duplicates;
         let mut starts = self.starts;
         let mut ends = self.ends;
+        let count = self.count;
         let place = self.place;
-        let made = next_lent(tag, &mut starts, &mut ends, html, checks, self.count, place);
+        if !good_in(tag, &starts, &ends, count, place) {
+            return Step {
+                answer: Answer::BadState,
+                state: IterState {
+                    place: Place::Done,
+                    html: html,
+                    check_duplicates: checks,
+                    starts: [0; CAPACITY],
+                    ends: [0; CAPACITY],
+                    count: 0,
+                },
+            };
+        }
+        let step = step_in(tag, &mut starts, &mut ends, html, checks, count, place);
+        // Tables of full size have a place for every key that is due to be recorded: the other case never comes.
+        let Stepped::Made(made) = step else {
+            return Step {
+                answer: Answer::End,
+                state: self,
+            };
+        };
         let answer = made.answer;
         let left = made.place;
         Step {

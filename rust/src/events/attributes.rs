@@ -3,11 +3,12 @@
 use crate::ffi::{self, Ahead, Answer, BATCH, Reads};
 use crate::memory::View;
 use crate::name::{Holder, NamespaceResolver, QName};
-use std::borrow::Cow;
-use std::error::Error;
-use std::fmt::{self, Debug, Display, Formatter};
-use std::iter::FusedIterator;
-use std::ops::Range;
+use alloc::borrow::Cow;
+use alloc::string::String;
+use core::error::Error;
+use core::fmt::{self, Debug, Display, Formatter};
+use core::iter::FusedIterator;
+use core::ops::Range;
 
 pub use crate::ffi::{Inside, Tables};
 
@@ -38,6 +39,57 @@ impl Attribute<'_> {
     }
 }
 
+impl<'a> From<(&'a str, &'a str)> for Attribute<'a> {
+    /// An attribute of this key, with a text for its value, which is escaped.
+    ///
+    /// ```
+    /// use mezzulidda::events::attributes::Attribute;
+    ///
+    /// let volume = Attribute::from(("volume", "north & south"));
+    /// assert_eq!(volume.value, "north &amp; south");
+    /// ```
+    fn from((key, value): (&'a str, &'a str)) -> Self {
+        Self::from((key, Cow::Borrowed(value)))
+    }
+}
+
+impl<'a> From<(&'a str, Cow<'a, str>)> for Attribute<'a> {
+    /// The same; a value that needs no escape is taken as it is.
+    fn from((key, value): (&'a str, Cow<'a, str>)) -> Self {
+        Attribute {
+            key: QName(key),
+            value: escaped(value),
+        }
+    }
+}
+
+/// The reference that stands for a character, where XML has one without a declaration.
+const fn reference(character: char) -> Option<&'static str> {
+    match character {
+        '<' => Some("&lt;"),
+        '>' => Some("&gt;"),
+        '&' => Some("&amp;"),
+        '\'' => Some("&apos;"),
+        '"' => Some("&quot;"),
+        _ => None,
+    }
+}
+
+/// A text as it can stand between quotes of either kind.
+fn escaped(text: Cow<str>) -> Cow<str> {
+    if !text.contains(|character| reference(character).is_some()) {
+        return text;
+    }
+    let mut written = String::new();
+    for character in text.chars() {
+        match reference(character) {
+            Some(reference) => written.push_str(reference),
+            None => written.push(character),
+        }
+    }
+    Cow::Owned(written)
+}
+
 impl<'a> From<Attr<&'a str>> for Attribute<'a> {
     #[inline]
     fn from(attr: Attr<&'a str>) -> Self {
@@ -49,7 +101,7 @@ impl<'a> From<Attr<&'a str>> for Attribute<'a> {
 }
 
 /// An attribute by the way it is written.
-#[derive(Clone, Debug, PartialEq, Eq, PartialOrd, Ord, Hash)]
+#[derive(Clone, PartialEq, Eq, PartialOrd, Ord, Hash)]
 pub enum Attr<T> {
     /// `key="value"`
     DoubleQ(T, T),
@@ -108,6 +160,23 @@ impl<T> From<Attr<T>> for (T, Option<T>) {
             }
             Attr::Empty(key) => (key, None),
         }
+    }
+}
+
+impl<T: Debug> Debug for Attr<T> {
+    fn fmt(&self, f: &mut Formatter) -> fmt::Result {
+        let (way, key, value) = match self {
+            Attr::DoubleQ(key, value) => ("Attr::DoubleQ", key, Some(value)),
+            Attr::SingleQ(key, value) => ("Attr::SingleQ", key, Some(value)),
+            Attr::Unquoted(key, value) => ("Attr::Unquoted", key, Some(value)),
+            Attr::Empty(key) => ("Attr::Empty", key, None),
+        };
+        let mut shown = f.debug_tuple(way);
+        shown.field(key);
+        if let Some(value) = value {
+            shown.field(value);
+        }
+        shown.finish()
     }
 }
 
@@ -303,9 +372,10 @@ fn refused(number: usize, a: usize, b: usize) -> AttrError {
 
 /// The attributes of a tag, and what is wrong in it, in the order in which they stand.
 ///
-/// The memory for the keys of 32 attributes is inside, less than 1 KB in all; a tag with more gets its places
-/// on the heap. It can be lent instead ([`with_tables`](Attributes::with_tables)): no tag allocates then, and
-/// the iterator is small and is moved at no cost.
+/// The memory for the keys of 32 attributes is inside, less than 1 KB in all, which stands on the stack once for each
+/// open tag where a program goes from tag to tag by recursion; a tag with more keys gets its places on the heap. It can be
+/// lent instead ([`with_tables`](Attributes::with_tables)): no tag allocates then, and the iterator is small and is moved
+/// at no cost.
 #[derive(Clone)]
 pub struct Attributes<'a, T = Inside> {
     buf: &'a str,
@@ -397,7 +467,8 @@ impl<'a, T: Kept> Iterator for Attributes<'a, T> {
 
     /// # Panics
     ///
-    /// As quick-xml's, where reading began inside a character and a key with it.
+    /// As quick-xml's, where reading began inside a character and a key with it; and where the static library is
+    /// not one for [this crate](crate#panics).
     #[inline]
     fn next(&mut self) -> Option<Self::Item> {
         let answer = self.state.next(self.buf.as_bytes())?;
@@ -473,11 +544,19 @@ impl<T: Kept> ByteAttributes<'_, T> {
         self.state.with_checks(self.buf, val);
         self
     }
+
+    /// As [`Attributes::has_nil`].
+    pub fn has_nil<M: Holder>(&mut self, resolver: &NamespaceResolver<M>) -> bool {
+        self.state.has_nil(self.buf, resolver.memory())
+    }
 }
 
 impl<'a, T: Kept> Iterator for ByteAttributes<'a, T> {
     type Item = Result<Attr<&'a [u8]>, AttrError>;
 
+    /// # Panics
+    ///
+    /// Where the static library is not one for [this crate](crate#panics).
     #[inline]
     fn next(&mut self) -> Option<Self::Item> {
         let answer = self.state.next(self.buf)?;
@@ -524,6 +603,3 @@ impl Debug for Inside {
         Shown(&self.ahead).fmt(f)
     }
 }
-
-// An iterator stands on the stack, one for each open tag where a program goes from tag to tag by recursion.
-const _: () = assert!(size_of::<Attributes>() <= 1_000);

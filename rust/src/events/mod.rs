@@ -3,9 +3,10 @@
 pub mod attributes;
 
 use crate::name::{LocalName, QName};
+use alloc::borrow::Cow;
 use attributes::{AttrError, Attribute, Attributes, Tables};
-use std::borrow::Cow;
-use std::ops::Deref;
+use core::fmt::{self, Debug, Formatter};
+use core::ops::Deref;
 
 /// An opening tag: what stands between `<` and `>` or `/>`, and where its name ends.
 ///
@@ -17,7 +18,7 @@ use std::ops::Deref;
 /// assert_eq!(tag.local_name().into_inner(), "chunk");
 /// assert_eq!(tag.attributes_raw(), " id='c-17'");
 /// ```
-#[derive(Clone, Debug, Eq, Hash, PartialEq, PartialOrd, Ord)]
+#[derive(Clone, Eq, Hash, PartialEq, PartialOrd, Ord)]
 pub struct BytesStart<'i> {
     buf: Cow<'i, str>,
     name_len: usize,
@@ -44,6 +45,11 @@ impl<'i> BytesStart<'i> {
         BytesStart::from_content(self.buf.into_owned(), self.name_len)
     }
 
+    /// A copy of the tag, with its own copy of the content.
+    pub fn to_owned(&self) -> BytesStart<'static> {
+        self.clone().into_owned()
+    }
+
     /// The same tag, with the content borrowed from this one.
     pub fn borrow(&self) -> BytesStart<'_> {
         BytesStart::from_content(&*self.buf, self.name_len)
@@ -60,6 +66,10 @@ impl<'i> BytesStart<'i> {
     }
 
     /// The name without its prefix.
+    ///
+    /// # Panics
+    ///
+    /// Where [`name`](Self::name) does.
     #[inline]
     pub fn local_name(&self) -> LocalName<'_> {
         self.name().into()
@@ -96,12 +106,21 @@ impl<'i> BytesStart<'i> {
     }
 
     /// What follows the name, as it stands.
+    ///
+    /// # Panics
+    ///
+    /// Where [`name`](Self::name) does.
     #[inline]
     pub fn attributes_raw(&self) -> &str {
         &self.buf[self.name_len..]
     }
 
-    /// The first attribute of this name, or the refusal that comes before it.
+    /// The first attribute of this name, or the refusal that comes before it. Keys are not checked: one that comes
+    /// twice is no refusal.
+    ///
+    /// # Panics
+    ///
+    /// Where the iterator over [`attributes`](Self::attributes) does.
     pub fn try_get_attribute<'a>(
         &'a self,
         attr_name: &str,
@@ -120,10 +139,30 @@ impl<'i> BytesStart<'i> {
     }
 }
 
+impl Debug for BytesStart<'_> {
+    fn fmt(&self, f: &mut Formatter) -> fmt::Result {
+        let held = match &self.buf {
+            Cow::Borrowed(_) => "Borrowed",
+            Cow::Owned(_) => "Owned",
+        };
+        let Self { buf, name_len } = self;
+        write!(
+            f,
+            "BytesStart {{ buf: {held}({buf:?}), name_len: {name_len} }}"
+        )
+    }
+}
+
 impl Deref for BytesStart<'_> {
     type Target = str;
 
     fn deref(&self) -> &str {
         &self.buf
+    }
+}
+
+impl AsRef<str> for BytesStart<'_> {
+    fn as_ref(&self) -> &str {
+        self
     }
 }

@@ -3,10 +3,11 @@
 mod resolver;
 
 use crate::ffi;
-use std::cmp::Ordering;
-use std::error::Error;
-use std::fmt::{self, Debug, Display, Formatter};
-use std::hash::{Hash, Hasher};
+use alloc::string::String;
+use core::cmp::Ordering;
+use core::error::Error;
+use core::fmt::{self, Debug, Display, Formatter};
+use core::hash::{Hash, Hasher};
 
 pub use resolver::{
     DEFAULT_MAX_NAMESPACE_BINDINGS, Holder, Lent, Memory, NamespaceBindingsIter,
@@ -44,6 +45,9 @@ pub enum NamespaceError {
         /// So much is lent.
         given: Room,
     },
+    /// A declaration of a tag that need not be text ([`NamespaceResolver::push_bytes`]) is not UTF-8. Nothing
+    /// was changed. quick-xml doesn't have this: its tags are text.
+    NoText,
     /// The memory is not that of a resolver. Memory is looked at before it is a resolver's
     /// ([`NamespaceResolver::resume_in`]) and the library alone writes it then, so it doesn't come here;
     /// quick-xml doesn't have it.
@@ -86,6 +90,7 @@ impl Display for NamespaceError {
             Self::LentMemoryFull { wanted, given } => {
                 write!(f, "room for {wanted} is needed, and for {given} is lent")
             }
+            Self::NoText => write!(f, "a namespace declaration is not UTF-8"),
             Self::BadResolver => write!(f, "the memory is not that of a resolver"),
         }
     }
@@ -148,7 +153,7 @@ impl<'a> QName<'a> {
     /// Both parts.
     #[inline]
     pub fn decompose(&self) -> (LocalName<'a>, Option<Prefix<'a>>) {
-        let colon = ffi::split(self.0);
+        let colon = ffi::split(self.0.as_bytes());
         if colon == self.0.len() {
             return (LocalName(self.0), None);
         }
@@ -224,16 +229,18 @@ impl<'a> Prefix<'a> {
         self.with_colon.split_at(self.with_colon.len() - 1).0
     }
 
+    // These two don't ask the library, which a constant function can't call: a test holds them against it.
+
     /// Whether it is `xml`.
     #[inline]
-    pub fn is_xml(&self) -> bool {
-        ffi::is_xml(self.into_inner())
+    pub const fn is_xml(&self) -> bool {
+        matches!(self.with_colon.as_bytes(), b"xml:")
     }
 
     /// Whether it is `xmlns`.
     #[inline]
-    pub fn is_xmlns(&self) -> bool {
-        ffi::is_xmlns(self.into_inner())
+    pub const fn is_xmlns(&self) -> bool {
+        matches!(self.with_colon.as_bytes(), b"xmlns:")
     }
 }
 

@@ -5,10 +5,13 @@ use super::{
 };
 use crate::LentError;
 use crate::events::BytesStart;
-use crate::ffi::{Answers, Detail, LEND_MORE, Listed, NAMES};
+use crate::ffi::{self, Answers, Detail, LEND_MORE, Listed, NAMES};
 use crate::memory::{Holds, View};
-use std::fmt::{self, Debug, Formatter};
-use std::iter::FusedIterator;
+use alloc::string::{String, ToString};
+use alloc::vec::Vec;
+use core::fmt::{self, Debug, Formatter};
+use core::iter::FusedIterator;
+use core::ops::{Index, Range};
 
 pub use crate::memory::{Holder, Lent, Memory, Owned, Room};
 
@@ -109,6 +112,10 @@ read_by!(Owned, Lent<'_>);
 
 impl<'m> NamespaceResolver<Lent<'m>> {
     /// A resolver with no declarations, in memory that is given. What the memory held is forgotten.
+    ///
+    /// # Panics
+    ///
+    /// Where the static library is not one for [this crate](crate#panics).
     pub fn new_in(memory: impl Into<Lent<'m>>) -> Self {
         let mut memory = memory.into();
         memory.fresh();
@@ -132,6 +139,10 @@ impl<'m> NamespaceResolver<Lent<'m>> {
     /// assert_eq!(resolver.level(), 1);
     /// # Ok::<(), LentError>(())
     /// ```
+    ///
+    /// # Panics
+    ///
+    /// Where the static library is not one for [this crate](crate#panics).
     pub fn resume_in(memory: impl Into<Lent<'m>>) -> Result<Self, LentError> {
         let memory = memory.into();
         let held = memory.view();
@@ -140,7 +151,7 @@ impl<'m> NamespaceResolver<Lent<'m>> {
             return Err(LentError::NoResolver);
         }
         // rule 20 is about bytes, and what is handed out here is text
-        match held.without_text() {
+        match held.without_text(0) {
             Some(binding) => Err(LentError::NoText(binding)),
             None => Ok(NamespaceResolver { memory }),
         }
@@ -209,11 +220,11 @@ impl<M: Holder> NamespaceResolver<M> {
     ) -> Result<(), NamespaceError> {
         let prefix = match prefix {
             PrefixDeclaration::Default => None,
-            PrefixDeclaration::Named(prefix) => Some(prefix),
+            PrefixDeclaration::Named(prefix) => Some(prefix.as_bytes()),
         };
-        let (answer, detail) = self.changed(|memory| memory.add(prefix, namespace.0))?;
-        let named = prefix.unwrap_or_default();
-        refusal(answer, detail, namespace.0, named)
+        let value = namespace.0.as_bytes();
+        let (answer, detail) = self.changed(|memory| memory.add(prefix, value))?;
+        refusal(answer, detail, value, prefix.unwrap_or_default())
     }
 
     /// Begins a scope: one level more, and the declarations of a tag.
@@ -222,8 +233,38 @@ impl<M: Holder> NamespaceResolver<M> {
     /// refused those before it stay, and so does the level. Lent memory that is too small is no such refusal:
     /// it changes nothing.
     pub fn push(&mut self, start: &BytesStart) -> Result<(), NamespaceError> {
-        let (answer, detail) = self.changed(|memory| memory.push(start, start.name_len()))?;
-        refusal(answer, detail, start, start)
+        let tag = start.as_bytes();
+        let (answer, detail) = self.changed(|memory| memory.push(tag, start.name_len()))?;
+        refusal(answer, detail, tag, tag)
+    }
+
+    /// As [`push`](Self::push), of a tag that need not be text, whose attributes begin at `pos`.
+    ///
+    /// A resolver holds text. Where a declaration that it would hold is not UTF-8, or what a refusal says of
+    /// one, that is refused, and nothing is changed: not the level either.
+    ///
+    /// ```
+    /// use mezzulidda::name::{Namespace, NamespaceError, NamespaceResolver};
+    ///
+    /// let mut resolver = NamespaceResolver::default();
+    /// resolver.push_bytes(b"volume xmlns:v='urn:b' label='\xff'", 6)?;
+    /// let (namespace, local) = resolver.resolve_bytes(b"v:\xff", true);
+    /// assert_eq!((namespace, local), (Ok(Some(Namespace("urn:b"))), &b"\xff"[..]));
+    ///
+    /// let refused = resolver.push_bytes(b"chunk xmlns:v='\xff'", 5);
+    /// assert_eq!((refused, resolver.level()), (Err(NamespaceError::NoText), 1));
+    /// # Ok::<(), NamespaceError>(())
+    /// ```
+    pub fn push_bytes(&mut self, tag: &[u8], pos: usize) -> Result<(), NamespaceError> {
+        let before = self.memory().used().bindings;
+        let (answer, detail) = self.changed(|memory| memory.push(tag, pos))?;
+        let told = refusal(answer, detail, tag, tag);
+        if told == Err(NamespaceError::NoText) || self.memory().without_text(before).is_some() {
+            // all that a push leaves goes with its level
+            self.pop();
+            return Err(NamespaceError::NoText);
+        }
+        told
     }
 
     /// Ends a scope: one level less, and without the bindings that were added at it. At level 0 there is
@@ -286,6 +327,29 @@ impl<M: Holder> NamespaceResolver<M> {
         self.resolved(prefix.map_or("", |prefix| prefix.with_colon), use_default)
     }
 
+    /// As [`resolve`](Self::resolve), of a name that need not be text: the namespace if it is in one, or its
+    /// prefix where nothing binds that; and the name without its prefix.
+    ///
+    /// ```
+    /// use mezzulidda::name::NamespaceResolver;
+    ///
+    /// let resolver = NamespaceResolver::default();
+    /// assert_eq!(resolver.resolve_bytes(b"\xff", true), (Ok(None), &b"\xff"[..]));
+    /// assert_eq!(resolver.resolve_bytes(b"\xff:id", true), (Err(&b"\xff"[..]), &b"id"[..]));
+    /// ```
+    pub fn resolve_bytes<'n>(
+        &self,
+        name: &'n [u8],
+        use_default: bool,
+    ) -> (Result<Option<Namespace<'_>>, &'n [u8]>, &'n [u8]) {
+        let memory = self.memory();
+        let local = name.get(ffi::split(name) + 1..).unwrap_or(name);
+        (
+            found(memory, name, memory.resolve(name, use_default)),
+            local,
+        )
+    }
+
     /// What the library reads it in.
     #[inline]
     pub(crate) fn memory(&self) -> View<'_> {
@@ -295,7 +359,7 @@ impl<M: Holder> NamespaceResolver<M> {
     #[inline]
     fn resolved(&self, name: &str, use_default: bool) -> ResolveResult<'_> {
         let memory = self.memory();
-        resolved(memory, name, memory.resolve(name, use_default))
+        resolved(memory, name, memory.resolve(name.as_bytes(), use_default))
     }
 
     /// The namespace of a tag's own name, and then those of names that stand in the tag, as the keys of
@@ -337,18 +401,31 @@ impl<M: Holder> NamespaceResolver<M> {
     }
 }
 
-/// What the library answers for a name.
+/// What the library answers for a name: its namespace, if it is in one, or the prefix that nothing binds.
 #[inline]
-fn resolved<'r>(
+fn found<'r, 'n, N>(
     memory: View<'r>,
-    name: &str,
+    name: &'n N,
     (answer, [from, to]): (usize, Detail),
-) -> ResolveResult<'r> {
+) -> Result<Option<Namespace<'r>>, &'n N>
+where
+    N: Index<Range<usize>, Output = N> + ?Sized,
+{
     match answer {
-        0 => ResolveResult::Unbound,
-        1 => ResolveResult::Bound(Namespace(memory.text(from, to))),
-        2 => unknown(&name[from..to]),
+        0 => Ok(None),
+        1 => Ok(Some(Namespace(memory.text(from, to)))),
+        2 => Err(&name[from..to]),
         _ => impossible(answer),
+    }
+}
+
+/// The same of a text, as quick-xml has it.
+#[inline]
+fn resolved<'r>(memory: View<'r>, name: &str, answer: (usize, Detail)) -> ResolveResult<'r> {
+    match found(memory, name, answer) {
+        Ok(None) => ResolveResult::Unbound,
+        Ok(Some(namespace)) => ResolveResult::Bound(namespace),
+        Err(prefix) => unknown(prefix),
     }
 }
 
@@ -372,19 +449,22 @@ fn shown<'a>(
     (prefix, Namespace(memory.text(from, to)))
 }
 
-/// The library's answer to a declaration, with the texts that its bounds are of.
+/// The library's answer to a declaration, with what its bounds are of.
 fn refusal(
     answer: usize,
     [from, to]: Detail,
-    namespace: &str,
-    prefix: &str,
+    namespace: &[u8],
+    prefix: &[u8],
 ) -> Result<(), NamespaceError> {
+    let text = |whole: &[u8]| {
+        String::from_utf8(whole[from..to].to_vec()).map_err(|_| NamespaceError::NoText)
+    };
     Err(match answer {
         0 => return Ok(()),
-        12 => NamespaceError::InvalidXmlPrefixBind(namespace[from..to].to_string()),
-        13 => NamespaceError::InvalidXmlnsPrefixBind(namespace[from..to].to_string()),
-        14 => NamespaceError::InvalidPrefixForXml(prefix[from..to].to_string()),
-        15 => NamespaceError::InvalidPrefixForXmlns(prefix[from..to].to_string()),
+        12 => NamespaceError::InvalidXmlPrefixBind(text(namespace)?),
+        13 => NamespaceError::InvalidXmlnsPrefixBind(text(namespace)?),
+        14 => NamespaceError::InvalidPrefixForXml(text(prefix)?),
+        15 => NamespaceError::InvalidPrefixForXmlns(text(prefix)?),
         16 => NamespaceError::TooManyBindings(from),
         17 => NamespaceError::TooDeeplyNested(from),
         18 => NamespaceError::BindingTableFull,
@@ -395,6 +475,11 @@ fn refusal(
 }
 
 impl Default for NamespaceResolver {
+    /// A resolver with no declarations, in memory of its own.
+    ///
+    /// # Panics
+    ///
+    /// Where the static library is not one for [this crate](crate#panics).
     fn default() -> Self {
         let mut memory = Owned::new();
         memory.lend().fresh();
@@ -480,7 +565,7 @@ impl<'r, 'n> Iterator for ResolvedNames<'r, 'n> {
             self.answers.get(self.taken - 1)
         } else {
             // a name of another tag is asked for alone
-            self.memory.resolve(name.0, self.own.is_some())
+            self.memory.resolve(name.0.as_bytes(), self.own.is_some())
         };
         if self.own.take().is_none() {
             self.keys = &self.keys[1..];

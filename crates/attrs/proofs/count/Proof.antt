@@ -1,8 +1,8 @@
 -- `attrs::count` meets its contract: tables of zeros are those of a fresh iterator.
 use mathlib.Core.Path.{refl}
 use Rattle.tag_step.specs.Next.{opened, noKeys}
-use Rattle.tag_batch.specs.Batch.{roomOf}
-use Rattle.attrs.specs.Count.{openedOn, tagAnswers}
+use Rattle.tag_batch.specs.Batch.{answersRoom}
+use Rattle.attrs.specs.Count.{attrsOpened, attrsAnswers}
 use borrow.Author.Needs.{needs}
 use Rattle.attrs.proofs.count.Statement.{statement}
 use Rattle.attrs.proofs.count.Tie as tie
@@ -17,11 +17,11 @@ slice-aggregate-count-on-3 : tie.Need-slice-aggregate-count-on-3
 slice-aggregate-count-on-3 c = search needs
 
 count-on-requires : tie.Need-count-on-requires
-unfolding roomOf
+unfolding answersRoom
 count-on-requires c κs = record { starts = refl; ends = refl; room = refl }
 
 returns : tie.Need-returns
-unfolding tagAnswers openedOn opened noKeys
+unfolding attrsAnswers attrsOpened opened noKeys
 returns c = c .before .before .before .count-on .ensures
 
 pub count-spec : {M : Type 1} → statement M

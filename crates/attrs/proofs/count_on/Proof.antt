@@ -8,9 +8,9 @@ use lib.ListN.{length, length-append}
 use borrow.Author.Needs.{needs}
 use Rattle.tag_step.specs.Run.{runOf}
 use Rattle.tag_step.specs.Next.{lentState}
-use Rattle.tag_batch.specs.Batch.{roomOf}
+use Rattle.tag_batch.specs.Batch.{answersRoom}
 use Rattle.lines.proofs.Batches.{Stand, stand-first, stand-next, stand-last, stand-bound, never-wrong, read-count, read-left}
-use Rattle.attrs.specs.Count.{openedOn}
+use Rattle.attrs.specs.Count.{attrsOpened}
 use Rattle.attrs.proofs.Turn.{room, full, total-fits}
 use Rattle.attrs.proofs.count_on.Statement.{statement}
 use Rattle.attrs.proofs.count_on.Tie as tie
@@ -18,7 +18,7 @@ use Rattle.attrs.proofs.count_on.Tie as tie
 abbrev Inv-loop : tie.InvT-loop
 Inv-loop tag starts₀ ends₀ numbers₀ place₀ recorded₀ total₀ starts ends numbers place recorded total =
     (length numbers ≡ length numbers₀)
-    × Stand tag (openedOn starts₀ ends₀) total (lentState place false true starts ends recorded)
+    × Stand tag (attrsOpened starts₀ ends₀) total (lentState place false true starts ends recorded)
     × (length starts ≡ length starts₀)
     × (length ends ≡ length ends₀)
 
@@ -26,8 +26,8 @@ abbrev μ-loop : tie.MeasureT-loop
 μ-loop tag starts₀ ends₀ numbers₀ place₀ recorded₀ total₀ starts ends numbers place recorded total = length tag + 1 - total
 
 loop-holds : tie.Need-loop-holds Inv-loop μ-loop
-unfolding openedOn
-loop-holds c = (refl, stand-first (c .before .before .before .before .args .tag .now) (openedOn (c .before .before .before .before .args .starts .now) (c .before .before .before .before .args .ends .now)) (record { starts = c .before .before .before .before .pre .starts; ends = c .before .before .before .before .pre .ends }), refl, refl)
+unfolding attrsOpened
+loop-holds c = (refl, stand-first (c .before .before .before .before .args .tag .now) (attrsOpened (c .before .before .before .before .args .starts .now) (c .before .before .before .before .args .ends .now)) (record { starts = c .before .before .before .before .pre .starts; ends = c .before .before .before .before .pre .ends }), refl, refl)
 
 read-batch-requires : tie.Need-read-batch-requires Inv-loop μ-loop
 read-batch-requires c κs = search needs
@@ -77,7 +77,7 @@ add-total c =
     let st = lentState (l .place) false true (l .starts) (l .ends) (l .recorded) in
     let b = c .before .before .before .before .before .before .before .before .before .read-batch .ensures in
     let n = read-count (a .tag .now) (l .place) false true (l .starts) (l .ends) (l .recorded) (l .numbers) (l .inv .1 .sized) b (c .before .left .given .1) in
-    omega (arith, total-fits (a .tag .now) (openedOn (a .starts .now) (a .ends .now)) (l .total) st (l .inv .1) (roomOf (l .numbers)), n)
+    omega (arith, total-fits (a .tag .now) (attrsOpened (a .starts .now) (a .ends .now)) (l .total) st (l .inv .1) (answersRoom (l .numbers)), n)
 
 same-length-4 : tie.Need-same-length-4 Inv-loop μ-loop
 same-length-4 c = search needs
@@ -95,8 +95,8 @@ returns-2 c =
     let st = lentState (l .place) false true (l .starts) (l .ends) (l .recorded) in
     let b = c .before .before .before .before .before .before .before .before .before .before .read-batch .ensures in
     let n = read-count (a .tag .now) (l .place) false true (l .starts) (l .ends) (l .recorded) (l .numbers) (l .inv .1 .sized) b (c .before .before .left .given .1) in
-    let z = stand-last (a .tag .now) (openedOn (a .starts .now) (a .ends .now)) (l .total) st (l .inv .1) (roomOf (l .numbers)) (omega (arith, room (l .numbers) (a .numbers .now) (l .inv .0) (c .before .before .before .before .before .before .before .before .before .before .before .before .before .before .before .before .before .before .before .pre .room))) in
-    rw z (omega (arith, n, length-append (runOf (l .total) (a .tag .now) (openedOn (a .starts .now) (a .ends .now))) (runOf (roomOf (l .numbers)) (a .tag .now) st), l .inv .1 .many))
+    let z = stand-last (a .tag .now) (attrsOpened (a .starts .now) (a .ends .now)) (l .total) st (l .inv .1) (answersRoom (l .numbers)) (omega (arith, room (l .numbers) (a .numbers .now) (l .inv .0) (c .before .before .before .before .before .before .before .before .before .before .before .before .before .before .before .before .before .before .before .pre .room))) in
+    rw z (omega (arith, n, length-append (runOf (l .total) (a .tag .now) (attrsOpened (a .starts .now) (a .ends .now))) (runOf (answersRoom (l .numbers)) (a .tag .now) st), l .inv .1 .many))
 
 loop-less : tie.Need-loop-less Inv-loop μ-loop
 loop-less c =
@@ -105,8 +105,8 @@ loop-less c =
     let st = lentState (l .place) false true (l .starts) (l .ends) (l .recorded) in
     let b = c .before .before .before .before .before .before .before .before .before .before .read-batch .ensures in
     let n = read-count (a .tag .now) (l .place) false true (l .starts) (l .ends) (l .recorded) (l .numbers) (l .inv .1 .sized) b (c .before .before .left .given .1) in
-    let next = stand-next (a .tag .now) (openedOn (a .starts .now) (a .ends .now)) (l .total) st (l .inv .1) (roomOf (l .numbers)) (full (a .tag .now) st (l .numbers) (a .numbers .now) (l .inv .0) (c .before .before .before .before .before .before .before .before .before .before .before .before .before .before .before .before .before .before .before .pre .room) n (c .if1 .left)) in
-    omega (arith, n, stand-bound (a .tag .now) (openedOn (a .starts .now) (a .ends .now)) (l .total + roomOf (l .numbers)) _ next 0, room (l .numbers) (a .numbers .now) (l .inv .0) (c .before .before .before .before .before .before .before .before .before .before .before .before .before .before .before .before .before .before .before .pre .room))
+    let next = stand-next (a .tag .now) (attrsOpened (a .starts .now) (a .ends .now)) (l .total) st (l .inv .1) (answersRoom (l .numbers)) (full (a .tag .now) st (l .numbers) (a .numbers .now) (l .inv .0) (c .before .before .before .before .before .before .before .before .before .before .before .before .before .before .before .before .before .before .before .pre .room) n (c .if1 .left)) in
+    omega (arith, n, stand-bound (a .tag .now) (attrsOpened (a .starts .now) (a .ends .now)) (l .total + answersRoom (l .numbers)) _ next 0, room (l .numbers) (a .numbers .now) (l .inv .0) (c .before .before .before .before .before .before .before .before .before .before .before .before .before .before .before .before .before .before .before .pre .room))
 
 loop-again : tie.Need-loop-again Inv-loop μ-loop
 loop-again c =
@@ -116,7 +116,7 @@ loop-again c =
     let b = c .before .before .before .before .before .before .before .before .before .before .read-batch .ensures in
     let n = read-count (a .tag .now) (l .place) false true (l .starts) (l .ends) (l .recorded) (l .numbers) (l .inv .1 .sized) b (c .before .before .left .given .1) in
     let f = full (a .tag .now) st (l .numbers) (a .numbers .now) (l .inv .0) (c .before .before .before .before .before .before .before .before .before .before .before .before .before .before .before .before .before .before .before .pre .room) n (c .if1 .left) in
-    let next = stand-next (a .tag .now) (openedOn (a .starts .now) (a .ends .now)) (l .total) st (l .inv .1) (roomOf (l .numbers)) f in
+    let next = stand-next (a .tag .now) (attrsOpened (a .starts .now) (a .ends .now)) (l .total) st (l .inv .1) (answersRoom (l .numbers)) f in
     let e = read-left (a .tag .now) (l .place) false true (l .starts) (l .ends) (l .recorded) (l .numbers) (l .inv .1 .sized) b (c .before .before .left .given .1) in
     (search needs, rw (e, n, f) next, search needs, search needs)
 

@@ -1,7 +1,7 @@
 -- `attrs::show` meets its contract: tables of zeros are those of a fresh iterator, and the text has room for a page.
 use mathlib.Core.Path.{refl}
 use native.Mathlib.Omega.{arith}
-use Rattle.tag_batch.specs.Batch.{roomOf}
+use Rattle.tag_batch.specs.Batch.{answersRoom}
 use borrow.Author.Needs.{needs}
 use Rattle.attrs.proofs.show.Statement.{statement}
 use Rattle.attrs.proofs.show.Tie as tie
@@ -19,7 +19,7 @@ slice-aggregate-show-on-4 : tie.Need-slice-aggregate-show-on-4
 slice-aggregate-show-on-4 c = search needs
 
 show-on-requires : tie.Need-show-on-requires
-unfolding roomOf
+unfolding answersRoom
 show-on-requires c κs = record { lent = record { starts = refl; ends = refl; room = refl }; fresh = (refl, refl); room = omega arith; counted = c .before .before .before .before .before .before .pre }
 
 returns : tie.Need-returns

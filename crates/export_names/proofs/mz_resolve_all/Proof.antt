@@ -1,4 +1,4 @@
--- `export_names::mz_resolve_all` meets its contract: a call comes back in four ways, each by its law (proofs/Calls), and after i
+-- `export_names::mz_resolve_all` meets its contract: a call comes back in three ways, each by its law (proofs/Calls), and after i
 -- turns each array has the numbers of the first i names (proofs/Written). The measure is what is left.
 use Prim.Native.Nat.{_-_}
 use mathlib.Core.Path.{_≡_, sym, _∙_}
@@ -7,7 +7,7 @@ use lib.ListN.{length}
 use borrow.Author.Needs.{needs}
 use borrow.Author.Tests.{not-true, not-false}
 use Rattle.export_names.proofs.Written.{Filled, filled-none, filled-next}
-use Rattle.export_names.proofs.Calls.{alike-long, nth, names-unlike, names-inside, name-told, names-wrong, names-bad, names-good}
+use Rattle.export_names.proofs.Calls.{alike-long, nth, names-unlike, names-inside, name-told, names-refused, names-good}
 use Rattle.export_names.proofs.mz_resolve_all.Statement.{statement}
 use Rattle.export_names.proofs.mz_resolve_all.Tie as tie
 
@@ -21,6 +21,9 @@ abbrev μ-loop : tie.MeasureT-loop
 alike-requires : tie.Need-alike-requires Inv-loop μ-loop
 alike-requires c κs = search needs
 
+number-requires : tie.Need-number-requires Inv-loop μ-loop
+number-requires c κs = search needs
+
 same-length : tie.Need-same-length Inv-loop μ-loop
 same-length c = search needs
 
@@ -32,8 +35,8 @@ same-length-3 c = search needs
 
 returns : tie.Need-returns Inv-loop μ-loop
 returns c =
-    let a = c .before .before .before .before .before .before .before .before .before .before .before .before .before .args in
-    names-unlike (a .tag .now) (a .from .now) (a .to .now) (a .elements) (a .kinds .now) (a .begins .now) (a .ends .now) (a .text .now) (a .records .now) (a .head .now) (sym (c .before .alike .ensures) ∙ not-true (c .before .alike .result) (c .if1 .taken))
+    let a = c .before .before .before .before .before .before .before .before .before .before .before .before .before .before .args in
+    rw (c .number .ensures) (names-unlike (a .tag .now) (a .from .now) (a .to .now) (a .elements) (a .kinds .now) (a .begins .now) (a .ends .now) (a .text .now) (a .records .now) (a .head .now) (sym (c .before .before .alike .ensures) ∙ not-true (c .before .before .alike .result) (c .before .if1 .taken)))
 
 head-from-requires : tie.Need-head-from-requires Inv-loop μ-loop
 head-from-requires c κs = search needs
@@ -44,8 +47,8 @@ form-in-requires c κs = search needs
 enum-told : tie.Need-enum-told Inv-loop μ-loop
 enum-told c = search needs
 
-enum-told-2 : tie.Need-enum-told-2 Inv-loop μ-loop
-enum-told-2 c = search needs
+number-requires-2 : tie.Need-number-requires-2 Inv-loop μ-loop
+number-requires-2 c κs = search needs
 
 same-length-4 : tie.Need-same-length-4 Inv-loop μ-loop
 same-length-4 c = search needs
@@ -59,24 +62,8 @@ same-length-6 c = search needs
 returns-2 : tie.Need-returns-2 Inv-loop μ-loop
 returns-2 c =
     let a = c .before .before .before .before .before .before .before .before .before .before .before .before .before .before .before .before .before .args in
-    names-bad (a .tag .now) (a .from .now) (a .to .now) (a .elements) (a .kinds .now) (a .begins .now) (a .ends .now) (a .text .now) (a .records .now) (a .head .now) (c .before .before .before .head-from .result) (c .before .before .before .head-from .ensures) (sym (c .before .before .before .before .before .alike .ensures) ∙ not-false (c .before .before .before .before .before .alike .result) (c .before .before .before .before .if1 .left)) (sym (c .before .before .form-in .ensures) ∙ c .enum-told2 .given .1)
-
-enum-told-3 : tie.Need-enum-told-3 Inv-loop μ-loop
-enum-told-3 c = search needs
-
-same-length-7 : tie.Need-same-length-7 Inv-loop μ-loop
-same-length-7 c = search needs
-
-same-length-8 : tie.Need-same-length-8 Inv-loop μ-loop
-same-length-8 c = search needs
-
-same-length-9 : tie.Need-same-length-9 Inv-loop μ-loop
-same-length-9 c = search needs
-
-returns-3 : tie.Need-returns-3 Inv-loop μ-loop
-returns-3 c =
-    let a = c .before .before .before .before .before .before .before .before .before .before .before .before .before .before .before .before .before .args in
-    names-wrong (a .tag .now) (a .from .now) (a .to .now) (a .elements) (a .kinds .now) (a .begins .now) (a .ends .now) (a .text .now) (a .records .now) (a .head .now) (c .before .before .before .head-from .result) (c .before .before .before .head-from .ensures) (sym (c .before .before .before .before .before .alike .ensures) ∙ not-false (c .before .before .before .before .before .alike .result) (c .before .before .before .before .if1 .left)) (sym (c .before .before .form-in .ensures) ∙ c .enum-told3 .given .1)
+    rw (c .number2 .ensures)
+    (names-refused (a .tag .now) (a .from .now) (a .to .now) (a .elements) (a .kinds .now) (a .begins .now) (a .ends .now) (a .text .now) (a .records .now) (a .head .now) (c .before .before .before .head-from .result) (c .before .before .before .head-from .ensures) (sym (c .before .before .before .before .before .alike .ensures) ∙ not-false (c .before .before .before .before .before .alike .result) (c .before .before .before .before .if1 .left)) (c .before .before .form-in .result) (sym (c .before .before .form-in .ensures)) (c .before .match .keys2))
 
 loop-holds : tie.Need-loop-holds Inv-loop μ-loop
 loop-holds c =
@@ -153,17 +140,17 @@ loop-again c =
     filled-next (nth (a .tag .now) (a .from .now) (a .to .now) (a .elements) (a .kinds .now) (a .begins .now) (a .ends .now) (a .text .now) (a .records .now) (a .head .now)) (length (a .from .now)) (a .kinds .now) (a .begins .now) (a .ends .now) (l .kinds) (l .begins) (l .ends) (l .i) (l .inv) (omega arith) _
     (name-told (a .tag .now) (a .from .now) (a .to .now) (a .elements) (a .kinds .now) (a .begins .now) (a .ends .now) (a .text .now) (a .records .now) (a .head .now) (c .before .before .before .before .before .before .before .before .before .before .head-from .result) (c .before .before .before .before .before .before .before .before .before .before .head-from .ensures) (sym (c .before .before .before .before .before .before .before .before .before .form-in .ensures) ∙ c .before .before .before .before .before .before .before .enum-told .given .1) (l .i) _ (c .before .before .inside .ensures) _ (c .before .name-among .ensures) _ (c .resolved-numbers .ensures))
 
-same-length-10 : tie.Need-same-length-10 Inv-loop μ-loop
-same-length-10 c = c .before .loop .inv .kinds-part .kept
+same-length-7 : tie.Need-same-length-7 Inv-loop μ-loop
+same-length-7 c = c .before .loop .inv .kinds-part .kept
 
-same-length-11 : tie.Need-same-length-11 Inv-loop μ-loop
-same-length-11 c = c .before .loop .inv .begins-part .kept
+same-length-8 : tie.Need-same-length-8 Inv-loop μ-loop
+same-length-8 c = c .before .loop .inv .begins-part .kept
 
-same-length-12 : tie.Need-same-length-12 Inv-loop μ-loop
-same-length-12 c = c .before .loop .inv .ends-part .kept
+same-length-9 : tie.Need-same-length-9 Inv-loop μ-loop
+same-length-9 c = c .before .loop .inv .ends-part .kept
 
-returns-4 : tie.Need-returns-4 Inv-loop μ-loop
-returns-4 c =
+returns-3 : tie.Need-returns-3 Inv-loop μ-loop
+returns-3 c =
     let a = c .before .before .before .before .before .before .before .before .before .before .before .before .before .before .before .before .before .before .before .args in
     let l = c .before .loop in
     names-good (a .tag .now) (a .from .now) (a .to .now) (a .elements) (a .kinds .now) (a .begins .now) (a .ends .now) (a .text .now) (a .records .now) (a .head .now) (c .before .before .before .before .before .head-from .result) (c .before .before .before .before .before .head-from .ensures) (sym (c .before .before .before .before .before .before .before .alike .ensures) ∙ not-false (c .before .before .before .before .before .before .before .alike .result) (c .before .before .before .before .before .before .if1 .left)) (sym (c .before .before .before .before .form-in .ensures) ∙ c .before .before .enum-told .given .1) (l .kinds) (l .begins) (l .ends) (l .i) (l .inv) (omega arith)
@@ -175,6 +162,7 @@ mz-resolve-all-spec =
     Inv-loop
     μ-loop
     alike-requires
+    number-requires
     same-length
     same-length-2
     same-length-3
@@ -182,16 +170,11 @@ mz-resolve-all-spec =
     head-from-requires
     form-in-requires
     enum-told
-    enum-told-2
+    number-requires-2
     same-length-4
     same-length-5
     same-length-6
     returns-2
-    enum-told-3
-    same-length-7
-    same-length-8
-    same-length-9
-    returns-3
     loop-holds
     mul-inside
     shared-slice-read-inside
@@ -209,7 +192,7 @@ mz-resolve-all-spec =
     add-i
     loop-less
     loop-again
-    same-length-10
-    same-length-11
-    same-length-12
-    returns-4)
+    same-length-7
+    same-length-8
+    same-length-9
+    returns-3)

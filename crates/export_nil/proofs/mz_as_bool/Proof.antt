@@ -7,12 +7,12 @@ use Rattle.export_nil.proofs.mz_as_bool.Tie as tie
 as-bool-requires : tie.Need-as-bool-requires
 as-bool-requires c κs = search needs
 
-truth-number-requires : tie.Need-truth-number-requires
-truth-number-requires c κs = search needs
+number-requires : tie.Need-number-requires
+number-requires c κs = search needs
 
 returns : tie.Need-returns
 returns c =
-    c .truth-number .ensures ∙ rw (c .before .as-bool .ensures)
+    c .number .ensures ∙ rw (c .before .as-bool .ensures)
 
 pub mz-as-bool-spec : {M : Type 1} → statement M
-mz-as-bool-spec = tie.close (tie.spec as-bool-requires truth-number-requires returns)
+mz-as-bool-spec = tie.close (tie.spec as-bool-requires number-requires returns)

@@ -25,8 +25,8 @@ has-nil-in-requires c κs = search needs
 settle-requires : tie.Need-settle-requires
 settle-requires c κs = search needs
 
-nil-number-requires : tie.Need-nil-number-requires
-nil-number-requires c κs = search needs
+number-requires : tie.Need-number-requires
+number-requires c κs = search needs
 
 same-length : tie.Need-same-length
 same-length c = search needs
@@ -37,7 +37,7 @@ same-length-2 c = search needs
 returns : tie.Need-returns
 returns c =
     let a = c .before .before .before .before .before .before .before .before .before .before .before .before .before .before .before .before .before .before .before .before .args in
-    nil-made (a .text .now) (a .records .now) (a .head .now) (a .tag .now) (a .key-starts .now) (a .key-ends .now) (a .state .now) (a .html) (a .checks) (c .before .before .before .before .before .before .before .before .before .before .before .before .before .before .head-from .result) (c .before .before .before .before .before .before .before .before .before .before .before .place-from .result) (c .before .before .before .before .before .before .before .has-nil-in .result) _ _ _ _ (c .before .before .before .before .before .before .before .before .before .before .before .before .before .before .head-from .ensures) (c .before .before .before .before .before .before .before .before .before .before .before .place-from .ensures) (c .before .before .before .before .before .before .before .has-nil-in .ensures) (c .before .settle .ensures) (c .nil-number .ensures)
+    nil-made (a .text .now) (a .records .now) (a .head .now) (a .tag .now) (a .key-starts .now) (a .key-ends .now) (a .state .now) (a .html) (a .checks) (c .before .before .before .before .before .before .before .before .before .before .before .before .before .before .head-from .result) (c .before .before .before .before .before .before .before .before .before .before .before .place-from .result) (c .before .before .before .before .before .before .before .has-nil-in .result) _ _ _ _ (c .before .before .before .before .before .before .before .before .before .before .before .before .before .before .head-from .ensures) (c .before .before .before .before .before .before .before .before .before .before .before .place-from .ensures) (c .before .before .before .before .before .before .before .has-nil-in .ensures) (c .before .settle .ensures) (c .number .ensures)
 
 pub mz-has-nil-spec : {M : Type 1} → statement M
 mz-has-nil-spec =
@@ -50,7 +50,7 @@ mz-has-nil-spec =
     element-copy-out-t16
     has-nil-in-requires
     settle-requires
-    nil-number-requires
+    number-requires
     same-length
     same-length-2
     returns)

@@ -1,6 +1,6 @@
 -- `lines::answers` meets its contract: a case each.
 use mathlib.Core.Path.{sym, ap}
-use Rattle.lines.specs.Page.{answersIn}
+use Rattle.lines.specs.Page.{answersCount}
 use borrow.Author.Needs.{needs}
 use Rattle.lines.proofs.answers.Statement.{statement}
 use Rattle.lines.proofs.answers.Tie as tie
@@ -12,7 +12,7 @@ enum-told : tie.Need-enum-told
 enum-told c = search needs
 
 returns : tie.Need-returns
-returns c = ap answersIn (sym (c .before .left .given .1))
+returns c = ap answersCount (sym (c .before .left .given .1))
 
 returns-2 : tie.Need-returns-2
 returns-2 c = search needs

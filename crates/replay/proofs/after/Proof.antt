@@ -1,7 +1,7 @@
 -- `replay::after` meets its contract: by the cases of the step.
 use mathlib.Core.Path.{ap}
 use native.Mathlib.Omega.{arith}
-use Rattle.replay.specs.Run.{sizeOf, namesOf, bindingsOf, afterOf}
+use Rattle.replay.specs.Run.{stepSize, stepNames, stepBindings, afterOf}
 use borrow.Author.Needs.{needs}
 use Rattle.replay.proofs.after.Statement.{statement}
 use Rattle.replay.proofs.after.Tie as tie
@@ -10,16 +10,16 @@ enum-known-step : tie.Need-enum-known-step
 enum-known-step c = search needs
 
 add-t8 : tie.Need-add-t8
-add-t8 c = omega (arith, ap sizeOf (c .before .before .step .given .1), c .before .before .before .before .pre .place)
+add-t8 c = omega (arith, ap stepSize (c .before .before .step .given .1), c .before .before .before .before .pre .place)
 
 add-t9 : tie.Need-add-t9
 add-t9 c = omega (arith, c .before .before .before .before .before .pre .records)
 
 add-t10 : tie.Need-add-t10
-add-t10 c = omega (arith, ap namesOf (c .before .before .before .before .step .given .1), c .before .before .before .before .before .before .pre .names)
+add-t10 c = omega (arith, ap stepNames (c .before .before .before .before .step .given .1), c .before .before .before .before .before .before .pre .names)
 
 add-t11 : tie.Need-add-t11
-add-t11 c = omega (arith, ap bindingsOf (c .before .before .before .before .before .step .given .1), c .before .before .before .before .before .before .before .pre .bindings)
+add-t11 c = omega (arith, ap stepBindings (c .before .before .before .before .before .step .given .1), c .before .before .before .before .before .before .before .pre .bindings)
 
 enum-told : tie.Need-enum-told
 enum-told c = search needs

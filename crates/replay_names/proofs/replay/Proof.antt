@@ -6,13 +6,13 @@ use lib.ListN.{length}
 use borrow.Author.Needs.{needs}
 use Rattle.replay.specs.Run.{replayEach}
 use Rattle.replay.proofs.Turns.{Stands, stands-first, stands-next, stands-nearer, stands-last, fits}
-use Rattle.replay_names.specs.Replay.{recordOf, replayOf}
+use Rattle.replay_names.specs.Replay.{nameRecordOf, namesReplayed}
 use Rattle.replay_names.proofs.Laws.{passes}
 use Rattle.replay_names.proofs.replay.Statement.{statement}
 use Rattle.replay_names.proofs.replay.Tie as tie
 
 abbrev Inv-loop : tie.InvT-loop
-Inv-loop records run₀ run = Stands {A = ℕ} (λ x rest. recordOf rest) (λ x rest. x) records 0 0 run
+Inv-loop records run₀ run = Stands {A = ℕ} (λ x rest. nameRecordOf rest) (λ x rest. x) records 0 0 run
 
 abbrev μ-loop : tie.MeasureT-loop
 μ-loop records run₀ run = length records - run .at
@@ -45,7 +45,7 @@ loop-again : tie.Need-loop-again Inv-loop μ-loop
 loop-again c = stands-next _ _ _ (c .before .before .before .before .before .loop .inv) (c .before .before .before .if1 .taken) (c .before .record-of .ensures) passes (c .after .ensures) refl
 
 returns : tie.Need-returns Inv-loop μ-loop
-unfolding replayOf replayEach
+unfolding namesReplayed replayEach
 returns c = stands-last _ _ _ (c .before .before .loop .inv) (c .if1 .left)
 
 pub replay-spec : {M : Type 1} → statement M

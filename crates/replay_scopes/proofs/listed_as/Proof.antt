@@ -1,5 +1,5 @@
 -- `replay_scopes::listed_as` meets its contract: the answer and the count are those of the listing.
-use Rattle.replay_scopes.specs.Calls.{listedAs}
+use Rattle.replay_scopes.specs.Calls.{calledListing}
 use borrow.Author.Needs.{needs}
 use Rattle.replay_scopes.proofs.listed_as.Statement.{statement}
 use Rattle.replay_scopes.proofs.listed_as.Tie as tie
@@ -11,7 +11,7 @@ shown-in-requires : tie.Need-shown-in-requires
 shown-in-requires c κs = search needs
 
 returns : tie.Need-returns
-unfolding listedAs
+unfolding calledListing
 returns c = rw (c .before .listing-said .ensures, c .shown-in .ensures)
 
 pub listed-as-spec : {M : Type 1} → statement M

@@ -1,5 +1,5 @@
 -- `replay_scopes::looked_up` meets its contract: the answer is that of the lookup.
-use Rattle.replay_scopes.specs.Calls.{lookedUp}
+use Rattle.replay_scopes.specs.Calls.{calledLookup}
 use borrow.Author.Needs.{needs}
 use Rattle.replay_scopes.proofs.looked_up.Statement.{statement}
 use Rattle.replay_scopes.proofs.looked_up.Tie as tie
@@ -8,7 +8,7 @@ lookup-said-requires : tie.Need-lookup-said-requires
 lookup-said-requires c κs = search needs
 
 returns : tie.Need-returns
-unfolding lookedUp
+unfolding calledLookup
 returns c = rw (c .lookup-said .ensures)
 
 pub looked-up-spec : {M : Type 1} → statement M

@@ -1,6 +1,9 @@
 -- `replay_scopes::make` meets its contract: each call is the one of its name.
 use mathlib.Core.Path.{_∙_}
-use Rattle.replay_scopes.specs.Calls.{madeOf}
+use Rattle.scope_table.proofs.Answers.{change-apart}
+use Rattle.scope_lookup.proofs.Numbers.{resolved-apart}
+use Rattle.scope_listing.proofs.Numbers.{listing-apart}
+use Rattle.replay_scopes.specs.Calls.{calledOf}
 use borrow.Author.Needs.{needs}
 use Rattle.replay_scopes.proofs.make.Statement.{statement}
 use Rattle.replay_scopes.proofs.make.Tie as tie
@@ -117,48 +120,48 @@ listed-as-requires-2 : tie.Need-listed-as-requires-2
 listed-as-requires-2 c κs = search needs
 
 returns : tie.Need-returns
-unfolding madeOf
+unfolding calledOf
 returns c = c .reset-to .ensures ∙ rw (c .before .fresh .ensures, c .before .before .enum-told .given .1)
 
 returns-2 : tie.Need-returns-2
-unfolding madeOf
-returns-2 c = c .changed-by .ensures ∙ rw (c .before .add .ensures, c .before .before .enum-told2 .given .1)
+unfolding calledOf
+returns-2 c = c .changed-by .ensures ∙ rw (change-apart _ _ (c .before .add .ensures), c .before .before .enum-told2 .given .1)
 
 returns-3 : tie.Need-returns-3
-unfolding madeOf
-returns-3 c = c .changed-by2 .ensures ∙ rw (c .before .add2 .ensures, c .before .before .enum-told3 .given .1)
+unfolding calledOf
+returns-3 c = c .changed-by2 .ensures ∙ rw (change-apart _ _ (c .before .add2 .ensures), c .before .before .enum-told3 .given .1)
 
 returns-4 : tie.Need-returns-4
-unfolding madeOf
-returns-4 c = c .changed-by3 .ensures ∙ rw (c .before .push .ensures, c .before .before .wide .ensures, c .before .before .before .enum-told4 .given .1)
+unfolding calledOf
+returns-4 c = c .changed-by3 .ensures ∙ rw (change-apart _ _ (c .before .push .ensures), c .before .before .wide .ensures, c .before .before .before .enum-told4 .given .1)
 
 returns-5 : tie.Need-returns-5
-unfolding madeOf
-returns-5 c = c .changed-by4 .ensures ∙ rw (c .before .pop .ensures, c .before .before .enum-told5 .given .1)
+unfolding calledOf
+returns-5 c = c .changed-by4 .ensures ∙ rw (change-apart _ _ (c .before .pop .ensures), c .before .before .enum-told5 .given .1)
 
 returns-6 : tie.Need-returns-6
-unfolding madeOf
-returns-6 c = c .changed-by5 .ensures ∙ rw (c .before .set-level .ensures, c .before .before .enum-told6 .given .1)
+unfolding calledOf
+returns-6 c = c .changed-by5 .ensures ∙ rw (change-apart _ _ (c .before .set-level .ensures), c .before .before .enum-told6 .given .1)
 
 returns-7 : tie.Need-returns-7
-unfolding madeOf
+unfolding calledOf
 returns-7 c = c .reset-to2 .ensures ∙ rw (c .before .set-max-namespace-bindings .ensures, c .before .before .wide2 .ensures, c .before .before .before .enum-told7 .given .1)
 
 returns-8 : tie.Need-returns-8
-unfolding madeOf
-returns-8 c = c .looked-up .ensures ∙ rw (c .before .resolve-attribute .ensures, c .before .before .enum-told8 .given .1)
+unfolding calledOf
+returns-8 c = c .looked-up .ensures ∙ rw (resolved-apart _ _ (c .before .resolve-attribute .ensures), c .before .before .enum-told8 .given .1)
 
 returns-9 : tie.Need-returns-9
-unfolding madeOf
-returns-9 c = c .looked-up2 .ensures ∙ rw (c .before .resolve-element .ensures, c .before .before .enum-told9 .given .1)
+unfolding calledOf
+returns-9 c = c .looked-up2 .ensures ∙ rw (resolved-apart _ _ (c .before .resolve-element .ensures), c .before .before .enum-told9 .given .1)
 
 returns-10 : tie.Need-returns-10
-unfolding madeOf
-returns-10 c = c .listed-as .ensures ∙ rw (c .before .bindings .ensures, c .before .before .wide3 .ensures, c .before .before .before .enum-told10 .given .1)
+unfolding calledOf
+returns-10 c = c .listed-as .ensures ∙ rw (listing-apart _ _ (c .before .bindings .ensures), c .before .before .wide3 .ensures, c .before .before .before .enum-told10 .given .1)
 
 returns-11 : tie.Need-returns-11
-unfolding madeOf
-returns-11 c = c .listed-as2 .ensures ∙ rw (c .before .bindings-of .ensures, c .before .before .wide4 .ensures, c .before .before .before .enum-told11 .given .1)
+unfolding calledOf
+returns-11 c = c .listed-as2 .ensures ∙ rw (listing-apart _ _ (c .before .bindings-of .ensures), c .before .before .wide4 .ensures, c .before .before .before .enum-told11 .given .1)
 
 pub make-spec : {M : Type 1} → statement M
 make-spec =

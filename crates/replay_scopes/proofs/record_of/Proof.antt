@@ -1,6 +1,6 @@
 -- `replay_scopes::record_of` meets its contract: a whole record is a turn.
 use mathlib.Core.Path.{sym, _∙_}
-use Rattle.replay_scopes.specs.Replay.{turnAt, recordOf}
+use Rattle.replay_scopes.specs.Replay.{turnAt, callRecordOf}
 use Rattle.replay_scopes.proofs.Laws.{whole-fits}
 use borrow.Author.Needs.{needs}
 use Rattle.replay_scopes.proofs.record_of.Statement.{statement}
@@ -19,11 +19,11 @@ enum-told : tie.Need-enum-told
 enum-told c = search needs
 
 returns : tie.Need-returns
-unfolding turnAt recordOf
+unfolding turnAt callRecordOf
 returns c = rw (sym (c .before .before .before .before .lengths-of .ensures) ∙ c .before .before .lengths .given .1) (c .turn-of .ensures)
 
 returns-2 : tie.Need-returns-2
-unfolding turnAt recordOf
+unfolding turnAt callRecordOf
 returns-2 c = rw (sym (c .before .before .lengths-of .ensures) ∙ c .enum-told .given .1)
 
 pub record-of-spec : {M : Type 1} → statement M

@@ -6,16 +6,16 @@ use lib.ListN.{length}
 use borrow.Author.Needs.{needs}
 use Rattle.scope_table.specs.Table.{freshOf}
 use Rattle.replay.proofs.Turns.{Stands, stands-first, stands-next, stands-nearer, stands-last, fits}
-use Rattle.replay_scopes.specs.Replay.{recordOf, replayOf}
+use Rattle.replay_scopes.specs.Replay.{callRecordOf, callsReplayed}
 use Rattle.replay_scopes.proofs.Laws.{passes}
 use Rattle.replay_scopes.proofs.replay.Statement.{statement}
 use Rattle.replay_scopes.proofs.replay.Tie as tie
 
 abbrev Inv-loop : tie.InvT-loop
-Inv-loop records resolver₀ run₀ resolver run = Stands (λ x rest. recordOf x rest .step) (λ x rest. recordOf x rest .resolver) records freshOf resolver run
+Inv-loop records own resolver₀ run₀ resolver run = Stands (λ x rest. callRecordOf x rest .step) (λ x rest. callRecordOf x rest .resolver) records freshOf resolver run
 
 abbrev μ-loop : tie.MeasureT-loop
-μ-loop records resolver₀ run₀ resolver run = length records - run .at
+μ-loop records own resolver₀ run₀ resolver run = length records - run .at
 
 fresh-requires : tie.Need-fresh-requires Inv-loop μ-loop
 fresh-requires c κs = search needs
@@ -48,7 +48,7 @@ loop-again : tie.Need-loop-again Inv-loop μ-loop
 loop-again c = stands-next _ _ _ (c .before .before .before .before .before .before .loop .inv) (c .before .before .before .before .if1 .taken) (ap (λ t. t .step) (c .before .before .record-of .ensures)) (passes _) (c .after .ensures) (ap (λ t. t .resolver) (c .before .before .record-of .ensures))
 
 returns : tie.Need-returns Inv-loop μ-loop
-unfolding replayOf
+unfolding callsReplayed
 returns c = stands-last _ _ _ (c .before .before .loop .inv) (c .if1 .left)
 
 pub replay-spec : {M : Type 1} → statement M

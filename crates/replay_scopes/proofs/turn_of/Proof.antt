@@ -28,26 +28,26 @@ two-at-requires c κs = search needs
 two-at-requires-2 : tie.Need-two-at-requires-2
 two-at-requires-2 c κs = search needs
 
-sub-make : tie.Need-sub-make
-sub-make c = search needs
+sub-make-by : tie.Need-sub-make-by
+sub-make-by c = search needs
 
-part-make-start : tie.Need-part-make-start
-part-make-start c = search needs
+part-make-by-start : tie.Need-part-make-by-start
+part-make-by-start c = search needs
 
-part-make-end : tie.Need-part-make-end
-part-make-end c = search needs
+part-make-by-end : tie.Need-part-make-by-end
+part-make-by-end c = search needs
 
-sub-make-2 : tie.Need-sub-make-2
-sub-make-2 c = search needs
+sub-make-by-2 : tie.Need-sub-make-by-2
+sub-make-by-2 c = search needs
 
-part-make-start-2 : tie.Need-part-make-start-2
-part-make-start-2 c = search needs
+part-make-by-start-2 : tie.Need-part-make-by-start-2
+part-make-by-start-2 c = search needs
 
-part-make-end-2 : tie.Need-part-make-end-2
-part-make-end-2 c = search needs
+part-make-by-end-2 : tie.Need-part-make-by-end-2
+part-make-by-end-2 c = search needs
 
-make-requires : tie.Need-make-requires
-make-requires c κs = search needs
+make-by-requires : tie.Need-make-by-requires
+make-by-requires c κs = search needs
 
 add-held-to : tie.Need-add-held-to
 add-held-to c = search needs
@@ -66,7 +66,7 @@ held-to-requires c κs = search needs
 
 returns : tie.Need-returns
 unfolding turnOf part
-returns c = c .held-to .ensures ∙ rw (c .before .before .make .ensures, c .before .before .before .before .before .before .before .call-of .ensures, c .before .before .before .before .before .before .two-at .ensures, c .before .before .before .before .before .two-at2 .ensures, to-end)
+returns c = c .held-to .ensures ∙ rw (c .before .before .make-by .ensures, c .before .before .before .before .before .before .before .call-of .ensures, c .before .before .before .before .before .before .two-at .ensures, c .before .before .before .before .before .two-at2 .ensures, to-end)
 
 pub turn-of-spec : {M : Type 1} → statement M
 turn-of-spec =
@@ -79,13 +79,13 @@ turn-of-spec =
     call-of-requires
     two-at-requires
     two-at-requires-2
-    sub-make
-    part-make-start
-    part-make-end
-    sub-make-2
-    part-make-start-2
-    part-make-end-2
-    make-requires
+    sub-make-by
+    part-make-by-start
+    part-make-by-end
+    sub-make-by-2
+    part-make-by-start-2
+    part-make-by-end-2
+    make-by-requires
     add-held-to
     sub-held-to
     part-held-to-start

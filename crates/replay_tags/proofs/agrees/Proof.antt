@@ -1,7 +1,7 @@
 -- `replay_tags::agrees` meets its contract: tables of zeros are those of a fresh iterator.
 use mathlib.Core.Path.{refl}
 use Rattle.tag_step.specs.Next.{opened, noKeys}
-use Rattle.replay_tags.specs.Replay.{openedOn}
+use Rattle.replay_tags.specs.Replay.{replayOpened}
 use borrow.Author.Needs.{needs}
 use Rattle.replay_tags.proofs.agrees.Statement.{statement}
 use Rattle.replay_tags.proofs.agrees.Tie as tie
@@ -19,7 +19,7 @@ same-length : tie.Need-same-length
 same-length c = search needs
 
 returns : tie.Need-returns
-unfolding openedOn opened noKeys
+unfolding replayOpened opened noKeys
 returns c = c .before .before .before .before .agrees-on .ensures
 
 pub agrees-spec : {M : Type 1} → statement M

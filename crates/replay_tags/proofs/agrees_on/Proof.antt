@@ -9,24 +9,24 @@ use borrow.Author.Needs.{needs}
 use borrow.Author.Tests.{not-true, not-false}
 use Rattle.tag_step.proofs.Good.{Sized}
 use Rattle.tag_step.specs.Next.{lentState}
-use Rattle.tag_batch.specs.Batch.{leftOf, roomOf}
+use Rattle.tag_batch.specs.Batch.{leftOf, answersRoom}
 use Rattle.lines.proofs.Batches.{never-wrong, read-count, read-left, read-text, left-sized}
-use Rattle.replay_tags.specs.Replay.{agreesWith, openedOn}
+use Rattle.replay_tags.specs.Replay.{answersAgree, replayOpened}
 use Rattle.replay_tags.proofs.Turns.{too-many, differs, last-is, goes-on, compared, few, filled, room-some, count-same, rest-on, in-room, enough}
 use Rattle.replay_tags.proofs.agrees_on.Statement.{statement}
 use Rattle.replay_tags.proofs.agrees_on.Tie as tie
 
 abbrev Inv-loop : tie.InvT-loop
-Inv-loop tag html checks opening answers recorded starts₀ ends₀ out₀ place₀ keys₀ total₀ starts ends out place keys total =
+Inv-loop tag opening answers recorded starts₀ ends₀ out₀ html checks place₀ keys₀ total₀ starts ends out place keys total =
     (total ≤ answers)
     × Sized (lentState place html checks starts ends keys)
-    × (agreesWith tag (lentState place₀ html checks starts₀ ends₀ keys₀) answers recorded ≡ agreesWith tag (lentState place html checks starts ends keys) (answers - total) (drop (10 * total) recorded))
+    × (answersAgree tag (lentState place₀ html checks starts₀ ends₀ keys₀) answers recorded ≡ answersAgree tag (lentState place html checks starts ends keys) (answers - total) (drop (10 * total) recorded))
     × (length out ≡ length out₀)
     × (length starts ≡ length starts₀)
     × (length ends ≡ length ends₀)
 
 abbrev μ-loop : tie.MeasureT-loop
-μ-loop tag html checks opening answers recorded starts₀ ends₀ out₀ place₀ keys₀ total₀ starts ends out place keys total =
+μ-loop tag opening answers recorded starts₀ ends₀ out₀ html checks place₀ keys₀ total₀ starts ends out place keys total =
     answers - total
 
 loop-holds : tie.Need-loop-holds Inv-loop μ-loop
@@ -48,33 +48,33 @@ same-length : tie.Need-same-length Inv-loop μ-loop
 same-length c =
     let a = c .before .before .before .before .before .before .before .before .before .before .before .before .before .before .before .before .before .before .args in
     let l = c .before .before .before .before .before .before .before .before .before .before .before .before .loop in
-    let st = lentState (l .place) (a .html) (a .checks) (l .starts) (l .ends) (l .keys) in
+    let st = lentState (l .place) (a .mode .html) (a .mode .checks) (l .starts) (l .ends) (l .keys) in
     let b = c .before .before .before .before .before .before .before .before .read-batch .ensures in
-    absurd (never-wrong (a .tag .now) (l .place) (a .html) (a .checks) (l .starts) (l .ends) (l .keys) (l .out) (l .inv .1) b (c .enum-told .given .1))
+    absurd (never-wrong (a .tag .now) (l .place) (a .mode .html) (a .mode .checks) (l .starts) (l .ends) (l .keys) (l .out) (l .inv .1) b (c .enum-told .given .1))
 
 same-length-2 : tie.Need-same-length-2 Inv-loop μ-loop
 same-length-2 c =
     let a = c .before .before .before .before .before .before .before .before .before .before .before .before .before .before .before .before .before .before .args in
     let l = c .before .before .before .before .before .before .before .before .before .before .before .before .loop in
-    let st = lentState (l .place) (a .html) (a .checks) (l .starts) (l .ends) (l .keys) in
+    let st = lentState (l .place) (a .mode .html) (a .mode .checks) (l .starts) (l .ends) (l .keys) in
     let b = c .before .before .before .before .before .before .before .before .read-batch .ensures in
-    absurd (never-wrong (a .tag .now) (l .place) (a .html) (a .checks) (l .starts) (l .ends) (l .keys) (l .out) (l .inv .1) b (c .enum-told .given .1))
+    absurd (never-wrong (a .tag .now) (l .place) (a .mode .html) (a .mode .checks) (l .starts) (l .ends) (l .keys) (l .out) (l .inv .1) b (c .enum-told .given .1))
 
 same-length-3 : tie.Need-same-length-3 Inv-loop μ-loop
 same-length-3 c =
     let a = c .before .before .before .before .before .before .before .before .before .before .before .before .before .before .before .before .before .before .args in
     let l = c .before .before .before .before .before .before .before .before .before .before .before .before .loop in
-    let st = lentState (l .place) (a .html) (a .checks) (l .starts) (l .ends) (l .keys) in
+    let st = lentState (l .place) (a .mode .html) (a .mode .checks) (l .starts) (l .ends) (l .keys) in
     let b = c .before .before .before .before .before .before .before .before .read-batch .ensures in
-    absurd (never-wrong (a .tag .now) (l .place) (a .html) (a .checks) (l .starts) (l .ends) (l .keys) (l .out) (l .inv .1) b (c .enum-told .given .1))
+    absurd (never-wrong (a .tag .now) (l .place) (a .mode .html) (a .mode .checks) (l .starts) (l .ends) (l .keys) (l .out) (l .inv .1) b (c .enum-told .given .1))
 
 returns : tie.Need-returns Inv-loop μ-loop
 returns c =
     let a = c .before .before .before .before .before .before .before .before .before .before .before .before .before .before .before .before .before .before .args in
     let l = c .before .before .before .before .before .before .before .before .before .before .before .before .loop in
-    let st = lentState (l .place) (a .html) (a .checks) (l .starts) (l .ends) (l .keys) in
+    let st = lentState (l .place) (a .mode .html) (a .mode .checks) (l .starts) (l .ends) (l .keys) in
     let b = c .before .before .before .before .before .before .before .before .read-batch .ensures in
-    absurd (never-wrong (a .tag .now) (l .place) (a .html) (a .checks) (l .starts) (l .ends) (l .keys) (l .out) (l .inv .1) b (c .enum-told .given .1))
+    absurd (never-wrong (a .tag .now) (l .place) (a .mode .html) (a .mode .checks) (l .starts) (l .ends) (l .keys) (l .out) (l .inv .1) b (c .enum-told .given .1))
 
 sub-if1 : tie.Need-sub-if1 Inv-loop μ-loop
 sub-if1 c = search needs
@@ -89,14 +89,14 @@ same-length-6 : tie.Need-same-length-6 Inv-loop μ-loop
 same-length-6 c = search needs
 
 returns-2 : tie.Need-returns-2 Inv-loop μ-loop
-unfolding openedOn
+unfolding replayOpened
 returns-2 c =
     let a = c .before .before .before .before .before .before .before .before .before .before .before .before .before .before .before .before .before .before .before .before .args in
     let l = c .before .before .before .before .before .before .before .before .before .before .before .before .before .before .loop in
-    let st = lentState (l .place) (a .html) (a .checks) (l .starts) (l .ends) (l .keys) in
+    let st = lentState (l .place) (a .mode .html) (a .mode .checks) (l .starts) (l .ends) (l .keys) in
     let b = c .before .before .before .before .before .before .before .before .before .before .read-batch .ensures in
-    let n = read-count (a .tag .now) (l .place) (a .html) (a .checks) (l .starts) (l .ends) (l .keys) (l .out) (l .inv .1) b (c .before .before .left .given .1) in
-    too-many (a .tag .now) st (l .inv .1) (roomOf (l .out)) (a .answers - l .total) (drop (10 * l .total) (a .recorded .now)) (omega arith) ∙ sym (l .inv .2)
+    let n = read-count (a .tag .now) (l .place) (a .mode .html) (a .mode .checks) (l .starts) (l .ends) (l .keys) (l .out) (l .inv .1) b (c .before .before .left .given .1) in
+    too-many (a .tag .now) st (l .inv .1) (answersRoom (l .out)) (a .answers - l .total) (drop (10 * l .total) (a .recorded .now)) (omega arith) ∙ sym (l .inv .2)
 
 mul-from : tie.Need-mul-from Inv-loop μ-loop
 mul-from c = search needs
@@ -108,19 +108,19 @@ slice-reshare-prefix-same-numbers : tie.Need-slice-reshare-prefix-same-numbers I
 slice-reshare-prefix-same-numbers c =
     let a = c .before .before .before .before .before .before .before .before .before .before .before .before .before .before .before .before .before .before .before .before .args in
     let l = c .before .before .before .before .before .before .before .before .before .before .before .before .before .before .loop in
-    let st = lentState (l .place) (a .html) (a .checks) (l .starts) (l .ends) (l .keys) in
+    let st = lentState (l .place) (a .mode .html) (a .mode .checks) (l .starts) (l .ends) (l .keys) in
     let b = c .before .before .before .before .before .before .before .before .before .before .read-batch .ensures in
-    let n = read-count (a .tag .now) (l .place) (a .html) (a .checks) (l .starts) (l .ends) (l .keys) (l .out) (l .inv .1) b (c .before .before .left .given .1) in
-    in-room (a .tag .now) st (l .out) _ n (read-text (a .tag .now) (l .place) (a .html) (a .checks) (l .starts) (l .ends) (l .keys) (l .out) (l .inv .1) b)
+    let n = read-count (a .tag .now) (l .place) (a .mode .html) (a .mode .checks) (l .starts) (l .ends) (l .keys) (l .out) (l .inv .1) b (c .before .before .left .given .1) in
+    in-room (a .tag .now) st (l .out) _ n (read-text (a .tag .now) (l .place) (a .mode .html) (a .mode .checks) (l .starts) (l .ends) (l .keys) (l .out) (l .inv .1) b)
 
 slice-aggregate-same-numbers : tie.Need-slice-aggregate-same-numbers Inv-loop μ-loop
 slice-aggregate-same-numbers c =
     let a = c .before .before .before .before .before .before .before .before .before .before .before .before .before .before .before .before .before .before .before .before .before .args in
     let l = c .before .before .before .before .before .before .before .before .before .before .before .before .before .before .before .loop in
-    let st = lentState (l .place) (a .html) (a .checks) (l .starts) (l .ends) (l .keys) in
+    let st = lentState (l .place) (a .mode .html) (a .mode .checks) (l .starts) (l .ends) (l .keys) in
     let b = c .before .before .before .before .before .before .before .before .before .before .before .read-batch .ensures in
-    let n = read-count (a .tag .now) (l .place) (a .html) (a .checks) (l .starts) (l .ends) (l .keys) (l .out) (l .inv .1) b (c .before .before .before .left .given .1) in
-    sym (length-take-le _ _ (in-room (a .tag .now) st (l .out) _ n (read-text (a .tag .now) (l .place) (a .html) (a .checks) (l .starts) (l .ends) (l .keys) (l .out) (l .inv .1) b)))
+    let n = read-count (a .tag .now) (l .place) (a .mode .html) (a .mode .checks) (l .starts) (l .ends) (l .keys) (l .out) (l .inv .1) b (c .before .before .before .left .given .1) in
+    sym (length-take-le _ _ (in-room (a .tag .now) st (l .out) _ n (read-text (a .tag .now) (l .place) (a .mode .html) (a .mode .checks) (l .starts) (l .ends) (l .keys) (l .out) (l .inv .1) b)))
 
 sub-same-numbers : tie.Need-sub-same-numbers Inv-loop μ-loop
 sub-same-numbers c = search needs
@@ -144,15 +144,15 @@ same-length-9 : tie.Need-same-length-9 Inv-loop μ-loop
 same-length-9 c = search needs
 
 returns-3 : tie.Need-returns-3 Inv-loop μ-loop
-unfolding openedOn
+unfolding replayOpened
 returns-3 c =
     let a = c .before .before .before .before .before .before .before .before .before .before .before .before .before .before .before .before .before .before .before .before .before .before .before .before .args in
     let l = c .before .before .before .before .before .before .before .before .before .before .before .before .before .before .before .before .before .before .loop in
-    let st = lentState (l .place) (a .html) (a .checks) (l .starts) (l .ends) (l .keys) in
+    let st = lentState (l .place) (a .mode .html) (a .mode .checks) (l .starts) (l .ends) (l .keys) in
     let b = c .before .before .before .before .before .before .before .before .before .before .before .before .before .before .read-batch .ensures in
-    let n = read-count (a .tag .now) (l .place) (a .html) (a .checks) (l .starts) (l .ends) (l .keys) (l .out) (l .inv .1) b (c .before .before .before .before .before .before .left .given .1) in
-    let same = compared (a .tag .now) st (l .out) (a .recorded .now) (10 * l .total) n (read-text (a .tag .now) (l .place) (a .html) (a .checks) (l .starts) (l .ends) (l .keys) (l .out) (l .inv .1) b) (c .before .same-numbers .ensures) in
-    differs (a .tag .now) st (l .inv .1) (roomOf (l .out)) (a .answers - l .total) (drop (10 * l .total) (a .recorded .now)) (omega arith) (same ∙ not-true _ (c .if2 .taken)) ∙ sym (l .inv .2)
+    let n = read-count (a .tag .now) (l .place) (a .mode .html) (a .mode .checks) (l .starts) (l .ends) (l .keys) (l .out) (l .inv .1) b (c .before .before .before .before .before .before .left .given .1) in
+    let same = compared (a .tag .now) st (l .out) (a .recorded .now) (10 * l .total) n (read-text (a .tag .now) (l .place) (a .mode .html) (a .mode .checks) (l .starts) (l .ends) (l .keys) (l .out) (l .inv .1) b) (c .before .same-numbers .ensures) in
+    differs (a .tag .now) st (l .inv .1) (answersRoom (l .out)) (a .answers - l .total) (drop (10 * l .total) (a .recorded .now)) (omega arith) (same ∙ not-true _ (c .if2 .taken)) ∙ sym (l .inv .2)
 
 add-result : tie.Need-add-result Inv-loop μ-loop
 add-result c = search needs
@@ -167,15 +167,15 @@ same-length-12 : tie.Need-same-length-12 Inv-loop μ-loop
 same-length-12 c = search needs
 
 returns-4 : tie.Need-returns-4 Inv-loop μ-loop
-unfolding openedOn
+unfolding replayOpened
 returns-4 c =
     let a = c .before .before .before .before .before .before .before .before .before .before .before .before .before .before .before .before .before .before .before .before .before .before .before .before .before .args in
     let l = c .before .before .before .before .before .before .before .before .before .before .before .before .before .before .before .before .before .before .before .loop in
-    let st = lentState (l .place) (a .html) (a .checks) (l .starts) (l .ends) (l .keys) in
+    let st = lentState (l .place) (a .mode .html) (a .mode .checks) (l .starts) (l .ends) (l .keys) in
     let b = c .before .before .before .before .before .before .before .before .before .before .before .before .before .before .before .read-batch .ensures in
-    let n = read-count (a .tag .now) (l .place) (a .html) (a .checks) (l .starts) (l .ends) (l .keys) (l .out) (l .inv .1) b (c .before .before .before .before .before .before .before .left .given .1) in
-    let same = compared (a .tag .now) st (l .out) (a .recorded .now) (10 * l .total) n (read-text (a .tag .now) (l .place) (a .html) (a .checks) (l .starts) (l .ends) (l .keys) (l .out) (l .inv .1) b) (c .before .before .same-numbers .ensures) in
-    count-same _ _ _ n (l .inv .0) ∙ last-is (a .tag .now) st (l .inv .1) (roomOf (l .out)) (a .answers - l .total) (drop (10 * l .total) (a .recorded .now)) (omega arith) (same ∙ not-false _ (c .before .if2 .left)) (few (a .tag .now) st (l .out) _ n (read-text (a .tag .now) (l .place) (a .html) (a .checks) (l .starts) (l .ends) (l .keys) (l .out) (l .inv .1) b) (c .if3 .taken)) ∙ sym (l .inv .2)
+    let n = read-count (a .tag .now) (l .place) (a .mode .html) (a .mode .checks) (l .starts) (l .ends) (l .keys) (l .out) (l .inv .1) b (c .before .before .before .before .before .before .before .left .given .1) in
+    let same = compared (a .tag .now) st (l .out) (a .recorded .now) (10 * l .total) n (read-text (a .tag .now) (l .place) (a .mode .html) (a .mode .checks) (l .starts) (l .ends) (l .keys) (l .out) (l .inv .1) b) (c .before .before .same-numbers .ensures) in
+    count-same _ _ _ n (l .inv .0) ∙ last-is (a .tag .now) st (l .inv .1) (answersRoom (l .out)) (a .answers - l .total) (drop (10 * l .total) (a .recorded .now)) (omega arith) (same ∙ not-false _ (c .before .if2 .left)) (few (a .tag .now) st (l .out) _ n (read-text (a .tag .now) (l .place) (a .mode .html) (a .mode .checks) (l .starts) (l .ends) (l .keys) (l .out) (l .inv .1) b) (c .if3 .taken)) ∙ sym (l .inv .2)
 
 add-total : tie.Need-add-total Inv-loop μ-loop
 add-total c = search needs
@@ -184,23 +184,23 @@ loop-less : tie.Need-loop-less Inv-loop μ-loop
 loop-less c =
     let a = c .before .before .before .before .before .before .before .before .before .before .before .before .before .before .before .before .before .before .before .before .before .before .before .before .before .args in
     let l = c .before .before .before .before .before .before .before .before .before .before .before .before .before .before .before .before .before .before .before .loop in
-    let st = lentState (l .place) (a .html) (a .checks) (l .starts) (l .ends) (l .keys) in
+    let st = lentState (l .place) (a .mode .html) (a .mode .checks) (l .starts) (l .ends) (l .keys) in
     let b = c .before .before .before .before .before .before .before .before .before .before .before .before .before .before .before .read-batch .ensures in
-    let n = read-count (a .tag .now) (l .place) (a .html) (a .checks) (l .starts) (l .ends) (l .keys) (l .out) (l .inv .1) b (c .before .before .before .before .before .before .before .left .given .1) in
-    omega (arith, filled (a .tag .now) st (l .out) _ n (read-text (a .tag .now) (l .place) (a .html) (a .checks) (l .starts) (l .ends) (l .keys) (l .out) (l .inv .1) b) (c .if3 .left), room-some (l .out) (a .out .now) (l .inv .3) (c .before .before .before .before .before .before .before .before .before .before .before .before .before .before .before .before .before .before .before .before .before .before .before .before .before .pre .room))
+    let n = read-count (a .tag .now) (l .place) (a .mode .html) (a .mode .checks) (l .starts) (l .ends) (l .keys) (l .out) (l .inv .1) b (c .before .before .before .before .before .before .before .left .given .1) in
+    omega (arith, filled (a .tag .now) st (l .out) _ n (read-text (a .tag .now) (l .place) (a .mode .html) (a .mode .checks) (l .starts) (l .ends) (l .keys) (l .out) (l .inv .1) b) (c .if3 .left), room-some (l .out) (a .out .now) (l .inv .3) (c .before .before .before .before .before .before .before .before .before .before .before .before .before .before .before .before .before .before .before .before .before .before .before .before .before .pre .room))
 
 loop-again : tie.Need-loop-again Inv-loop μ-loop
 loop-again c =
     let a = c .before .before .before .before .before .before .before .before .before .before .before .before .before .before .before .before .before .before .before .before .before .before .before .before .before .args in
     let l = c .before .before .before .before .before .before .before .before .before .before .before .before .before .before .before .before .before .before .before .loop in
-    let st = lentState (l .place) (a .html) (a .checks) (l .starts) (l .ends) (l .keys) in
+    let st = lentState (l .place) (a .mode .html) (a .mode .checks) (l .starts) (l .ends) (l .keys) in
     let b = c .before .before .before .before .before .before .before .before .before .before .before .before .before .before .before .read-batch .ensures in
-    let n = read-count (a .tag .now) (l .place) (a .html) (a .checks) (l .starts) (l .ends) (l .keys) (l .out) (l .inv .1) b (c .before .before .before .before .before .before .before .left .given .1) in
-    let same = compared (a .tag .now) st (l .out) (a .recorded .now) (10 * l .total) n (read-text (a .tag .now) (l .place) (a .html) (a .checks) (l .starts) (l .ends) (l .keys) (l .out) (l .inv .1) b) (c .before .before .same-numbers .ensures) in
-    let f = filled (a .tag .now) st (l .out) _ n (read-text (a .tag .now) (l .place) (a .html) (a .checks) (l .starts) (l .ends) (l .keys) (l .out) (l .inv .1) b) (c .if3 .left) in
-    let e = read-left (a .tag .now) (l .place) (a .html) (a .checks) (l .starts) (l .ends) (l .keys) (l .out) (l .inv .1) b (c .before .before .before .before .before .before .before .left .given .1) in
-    let on = goes-on (a .tag .now) st (l .inv .1) (roomOf (l .out)) (a .answers - l .total) (drop (10 * l .total) (a .recorded .now)) (omega arith) (same ∙ not-false _ (c .before .if2 .left)) f in
-    (omega arith, rw e (left-sized (roomOf (l .out)) (a .tag .now) st (l .inv .1)), l .inv .2 ∙ on ∙ rw (e, ← n) (rest-on (a .tag .now) (leftOf (roomOf (l .out)) (a .tag .now) st) (a .answers) (l .total) _ (a .recorded .now)), search needs, search needs, search needs)
+    let n = read-count (a .tag .now) (l .place) (a .mode .html) (a .mode .checks) (l .starts) (l .ends) (l .keys) (l .out) (l .inv .1) b (c .before .before .before .before .before .before .before .left .given .1) in
+    let same = compared (a .tag .now) st (l .out) (a .recorded .now) (10 * l .total) n (read-text (a .tag .now) (l .place) (a .mode .html) (a .mode .checks) (l .starts) (l .ends) (l .keys) (l .out) (l .inv .1) b) (c .before .before .same-numbers .ensures) in
+    let f = filled (a .tag .now) st (l .out) _ n (read-text (a .tag .now) (l .place) (a .mode .html) (a .mode .checks) (l .starts) (l .ends) (l .keys) (l .out) (l .inv .1) b) (c .if3 .left) in
+    let e = read-left (a .tag .now) (l .place) (a .mode .html) (a .mode .checks) (l .starts) (l .ends) (l .keys) (l .out) (l .inv .1) b (c .before .before .before .before .before .before .before .left .given .1) in
+    let on = goes-on (a .tag .now) st (l .inv .1) (answersRoom (l .out)) (a .answers - l .total) (drop (10 * l .total) (a .recorded .now)) (omega arith) (same ∙ not-false _ (c .before .if2 .left)) f in
+    (omega arith, rw e (left-sized (answersRoom (l .out)) (a .tag .now) st (l .inv .1)), l .inv .2 ∙ on ∙ rw (e, ← n) (rest-on (a .tag .now) (leftOf (answersRoom (l .out)) (a .tag .now) st) (a .answers) (l .total) _ (a .recorded .now)), search needs, search needs, search needs)
 
 pub agrees-on-spec : {M : Type 1} → statement M
 agrees-on-spec =

@@ -52,50 +52,50 @@ shared-slice-read-wide-2 c = search needs
 wide-requires-2 : tie.Need-wide-requires-2
 wide-requires-2 c κs = search needs
 
-sub-agrees : tie.Need-sub-agrees
-sub-agrees c = search needs
+sub-agrees-by : tie.Need-sub-agrees-by
+sub-agrees-by c = search needs
 
-part-agrees-start : tie.Need-part-agrees-start
-part-agrees-start c = search needs
+part-agrees-by-start : tie.Need-part-agrees-by-start
+part-agrees-by-start c = search needs
 
-part-agrees-end : tie.Need-part-agrees-end
-part-agrees-end c = search needs
+part-agrees-by-end : tie.Need-part-agrees-by-end
+part-agrees-by-end c = search needs
 
 number-at-requires-3 : tie.Need-number-at-requires-3
 number-at-requires-3 c κs = search needs
 
-sub-agrees-2 : tie.Need-sub-agrees-2
-sub-agrees-2 c = search needs
+sub-agrees-by-2 : tie.Need-sub-agrees-by-2
+sub-agrees-by-2 c = search needs
 
-part-agrees-start-2 : tie.Need-part-agrees-start-2
-part-agrees-start-2 c = search needs
+part-agrees-by-start-2 : tie.Need-part-agrees-by-start-2
+part-agrees-by-start-2 c = search needs
 
-part-agrees-end-2 : tie.Need-part-agrees-end-2
-part-agrees-end-2 c = search needs
+part-agrees-by-end-2 : tie.Need-part-agrees-by-end-2
+part-agrees-by-end-2 c = search needs
 
-agrees-requires : tie.Need-agrees-requires
-agrees-requires c κs = search needs
-
-add-t27 : tie.Need-add-t27
-add-t27 c = search needs
-
-mul-t28 : tie.Need-mul-t28
-mul-t28 c = search needs
+agrees-by-requires : tie.Need-agrees-by-requires
+agrees-by-requires c κs = search needs
 
 add-t29 : tie.Need-add-t29
 add-t29 c = search needs
+
+mul-t30 : tie.Need-mul-t30
+mul-t30 c = search needs
+
+add-t31 : tie.Need-add-t31
+add-t31 c = search needs
 
 same-length : tie.Need-same-length
 same-length c = search needs
 
 returns-4 : tie.Need-returns-4
-returns-4 c = whole (c .before .before .before .before .before .before .before .before .before .before .before .before .before .before .before .before .before .before .before .before .args .rest .now) (c .before .before .before .before .before .before .before .before .before .before .before .before .before .before .before .before .before .if1 .left) (c .before .before .before .before .before .before .before .before .before .before .before .before .before .before .before .before .number-at .ensures) (c .before .before .before .before .before .before .before .before .before .before .before .before .before .before .before .if2 .left) refl (c .before .before .before .before .before .before .before .before .before .before .before .before .before .number-at2 .ensures) (c .before .before .before .before .before .before .before .before .before .before .before .before .if3 .left) (ap (λ (x : ℕ). eqb x 1) (c .before .before .before .before .before .before .before .before .before .before .wide .ensures)) (ap (λ (x : ℕ). eqb x 1) (c .before .before .before .before .before .before .before .before .wide2 .ensures)) (c .before .before .before .before .before .before .number-at3 .ensures) refl (sym (c .if4 .taken) ∙ c .before .before .before .agrees .ensures)
+returns-4 c = whole (c .before .before .before .before .before .before .before .before .before .before .before .before .before .before .before .before .before .before .before .before .args .rest .now) (c .before .before .before .before .before .before .before .before .before .before .before .before .before .before .before .before .before .if1 .left) (c .before .before .before .before .before .before .before .before .before .before .before .before .before .before .before .before .number-at .ensures) (c .before .before .before .before .before .before .before .before .before .before .before .before .before .before .before .if2 .left) refl (c .before .before .before .before .before .before .before .before .before .before .before .before .before .number-at2 .ensures) (c .before .before .before .before .before .before .before .before .before .before .before .before .if3 .left) (ap (λ (x : ℕ). eqb x 1) (c .before .before .before .before .before .before .before .before .before .before .wide .ensures)) (ap (λ (x : ℕ). eqb x 1) (c .before .before .before .before .before .before .before .before .wide2 .ensures)) (c .before .before .before .before .before .before .number-at3 .ensures) refl (sym (c .if4 .taken) ∙ c .before .before .before .agrees-by .ensures)
 
 same-length-2 : tie.Need-same-length-2
 same-length-2 c = search needs
 
 returns-5 : tie.Need-returns-5
-returns-5 c = whole (c .before .before .before .before .before .before .before .before .before .before .before .before .before .before .before .before .before .before .before .before .args .rest .now) (c .before .before .before .before .before .before .before .before .before .before .before .before .before .before .before .before .before .if1 .left) (c .before .before .before .before .before .before .before .before .before .before .before .before .before .before .before .before .number-at .ensures) (c .before .before .before .before .before .before .before .before .before .before .before .before .before .before .before .if2 .left) refl (c .before .before .before .before .before .before .before .before .before .before .before .before .before .number-at2 .ensures) (c .before .before .before .before .before .before .before .before .before .before .before .before .if3 .left) (ap (λ (x : ℕ). eqb x 1) (c .before .before .before .before .before .before .before .before .before .before .wide .ensures)) (ap (λ (x : ℕ). eqb x 1) (c .before .before .before .before .before .before .before .before .wide2 .ensures)) (c .before .before .before .before .before .before .number-at3 .ensures) refl (sym (c .if4 .left) ∙ c .before .before .before .agrees .ensures)
+returns-5 c = whole (c .before .before .before .before .before .before .before .before .before .before .before .before .before .before .before .before .before .before .before .before .args .rest .now) (c .before .before .before .before .before .before .before .before .before .before .before .before .before .before .before .before .before .if1 .left) (c .before .before .before .before .before .before .before .before .before .before .before .before .before .before .before .before .number-at .ensures) (c .before .before .before .before .before .before .before .before .before .before .before .before .before .before .before .if2 .left) refl (c .before .before .before .before .before .before .before .before .before .before .before .before .before .number-at2 .ensures) (c .before .before .before .before .before .before .before .before .before .before .before .before .if3 .left) (ap (λ (x : ℕ). eqb x 1) (c .before .before .before .before .before .before .before .before .before .before .wide .ensures)) (ap (λ (x : ℕ). eqb x 1) (c .before .before .before .before .before .before .before .before .wide2 .ensures)) (c .before .before .before .before .before .before .number-at3 .ensures) refl (sym (c .if4 .left) ∙ c .before .before .before .agrees-by .ensures)
 
 pub record-of-spec : {M : Type 1} → statement M
 record-of-spec =
@@ -116,17 +116,17 @@ record-of-spec =
     wide-requires
     shared-slice-read-wide-2
     wide-requires-2
-    sub-agrees
-    part-agrees-start
-    part-agrees-end
+    sub-agrees-by
+    part-agrees-by-start
+    part-agrees-by-end
     number-at-requires-3
-    sub-agrees-2
-    part-agrees-start-2
-    part-agrees-end-2
-    agrees-requires
-    add-t27
-    mul-t28
+    sub-agrees-by-2
+    part-agrees-by-start-2
+    part-agrees-by-end-2
+    agrees-by-requires
     add-t29
+    mul-t30
+    add-t31
     same-length
     returns-4
     same-length-2

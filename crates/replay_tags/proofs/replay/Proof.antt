@@ -6,17 +6,17 @@ use lib.ListN.{length}
 use borrow.Author.Needs.{needs}
 use Rattle.replay.specs.Run.{replayEach}
 use Rattle.replay.proofs.Turns.{Stands, stands-first, stands-next, stands-nearer, stands-last, fits}
-use Rattle.replay_tags.specs.Replay.{recordOf, replayOf}
+use Rattle.replay_tags.specs.Replay.{tagRecordOf, tagsReplayed}
 use Rattle.replay_tags.proofs.Laws.{passes}
 use Rattle.replay_tags.proofs.replay.Statement.{statement}
 use Rattle.replay_tags.proofs.replay.Tie as tie
 
 abbrev Inv-loop : tie.InvT-loop
-Inv-loop records out₀ run₀ out run =
-    Stands {A = ℕ} (λ x rest. recordOf rest) (λ x rest. x) records 0 0 run × (length out ≡ length out₀)
+Inv-loop records carried out₀ run₀ out run =
+    Stands {A = ℕ} (λ x rest. tagRecordOf rest) (λ x rest. x) records 0 0 run × (length out ≡ length out₀)
 
 abbrev μ-loop : tie.MeasureT-loop
-μ-loop records out₀ run₀ out run = length records - run .at
+μ-loop records carried out₀ run₀ out run = length records - run .at
 
 begun-requires : tie.Need-begun-requires Inv-loop μ-loop
 begun-requires c κs = search needs
@@ -49,7 +49,7 @@ same-length : tie.Need-same-length Inv-loop μ-loop
 same-length c = search needs
 
 returns : tie.Need-returns Inv-loop μ-loop
-unfolding replayOf replayEach
+unfolding tagsReplayed replayEach
 returns c = stands-last _ _ _ (c .before .before .loop .inv .0) (c .if1 .left)
 
 pub replay-spec : {M : Type 1} → statement M

@@ -1,5 +1,7 @@
 -- `scope_declare::add` meets its contract: the arrays are lent whole, and what is put together is what they became.
+use mathlib.Core.Path.{ap}
 use borrow.Author.Needs.{needs}
+use Rattle.scope_table.specs.Answer.{numberedChange}
 use Rattle.scope_declare.specs.Declare.{addOf}
 use Rattle.scope_declare.proofs.Laws.{FullSize, add-sized, by-value}
 use Rattle.scope_declare.proofs.add.Statement.{statement}
@@ -18,7 +20,7 @@ returns : tie.Need-returns
 returns c =
     let a = c .before .before .before .before .before .before .before .before .before .before .before .args in
     let s : FullSize (a .r) = record { text = search needs; records = search needs } in
-    by-value (addOf (a .declares) (a .prefix .now) (a .value .now)) (a .r) s (add-sized (a .declares) (a .prefix .now) (a .value .now) (a .r) s) _ _ _ _ (c .before .before .before .add-in .ensures)
+    ap numberedChange (by-value (addOf (a .declares) (a .prefix .now) (a .value .now)) (a .r) s (add-sized (a .declares) (a .prefix .now) (a .value .now) (a .r) s) _ _ _ _ (c .before .before .before .add-in .ensures))
 
 pub add-spec : {M : Type 1} → statement M
 add-spec =

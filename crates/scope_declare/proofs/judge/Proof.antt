@@ -1,6 +1,7 @@
 -- `scope_declare::judge` meets its contract: each arm says which case it is.
 use mathlib.Core.Path.{sym, _∙_}
 use borrow.Author.Needs.{needs}
+use Rattle.name.proofs.Verdicts.{named-apart}
 use Rattle.scope_declare.specs.Declare.{namedOf, judgeOf}
 use Rattle.scope_declare.proofs.judge.Statement.{statement}
 use Rattle.scope_declare.proofs.judge.Tie as tie
@@ -45,27 +46,27 @@ enum-told-9 c = search needs
 
 returns-3 : tie.Need-returns-3
 unfolding judgeOf namedOf
-returns-3 c = rw (c .before .before .before .enum-told3 .given .1, sym (c .before .before .check-named .ensures) ∙ c .enum-told4 .given .1)
+returns-3 c = rw (c .before .before .before .enum-told3 .given .1, sym (named-apart _ _ (c .before .before .check-named .ensures)) ∙ c .enum-told4 .given .1)
 
 returns-4 : tie.Need-returns-4
 unfolding judgeOf namedOf
-returns-4 c = rw (c .before .before .before .enum-told3 .given .1, sym (c .before .before .check-named .ensures) ∙ c .enum-told5 .given .1)
+returns-4 c = rw (c .before .before .before .enum-told3 .given .1, sym (named-apart _ _ (c .before .before .check-named .ensures)) ∙ c .enum-told5 .given .1)
 
 returns-5 : tie.Need-returns-5
 unfolding judgeOf namedOf
-returns-5 c = rw (c .before .before .before .enum-told3 .given .1, sym (c .before .before .check-named .ensures) ∙ c .enum-told6 .given .1)
+returns-5 c = rw (c .before .before .before .enum-told3 .given .1, sym (named-apart _ _ (c .before .before .check-named .ensures)) ∙ c .enum-told6 .given .1)
 
 returns-6 : tie.Need-returns-6
 unfolding judgeOf namedOf
-returns-6 c = rw (c .before .before .before .enum-told3 .given .1, sym (c .before .before .check-named .ensures) ∙ c .enum-told7 .given .1)
+returns-6 c = rw (c .before .before .before .enum-told3 .given .1, sym (named-apart _ _ (c .before .before .check-named .ensures)) ∙ c .enum-told7 .given .1)
 
 returns-7 : tie.Need-returns-7
 unfolding judgeOf namedOf
-returns-7 c = rw (c .before .before .before .enum-told3 .given .1, sym (c .before .before .check-named .ensures) ∙ c .enum-told8 .given .1)
+returns-7 c = rw (c .before .before .before .enum-told3 .given .1, sym (named-apart _ _ (c .before .before .check-named .ensures)) ∙ c .enum-told8 .given .1)
 
 returns-8 : tie.Need-returns-8
 unfolding judgeOf namedOf
-returns-8 c = rw (c .before .before .before .enum-told3 .given .1, sym (c .before .before .check-named .ensures) ∙ c .enum-told9 .given .1)
+returns-8 c = rw (c .before .before .before .enum-told3 .given .1, sym (named-apart _ _ (c .before .before .check-named .ensures)) ∙ c .enum-told9 .given .1)
 
 pub judge-spec : {M : Type 1} → statement M
 judge-spec =

@@ -1,5 +1,7 @@
 -- `scope_declare::pop` meets its contract: as `add`.
+use mathlib.Core.Path.{ap}
 use borrow.Author.Needs.{needs}
+use Rattle.scope_table.specs.Answer.{numberedChange}
 use Rattle.scope_declare.specs.Declare.{popOf}
 use Rattle.scope_declare.proofs.Laws.{FullSize, pop-sized, by-value}
 use Rattle.scope_declare.proofs.pop.Statement.{statement}
@@ -18,7 +20,7 @@ returns : tie.Need-returns
 returns c =
     let a = c .before .before .before .before .before .before .before .before .before .args in
     let s : FullSize (a .r) = record { text = search needs; records = search needs } in
-    by-value popOf (a .r) s (pop-sized (a .r) s) _ _ _ _ (c .before .before .before .pop-in .ensures)
+    ap numberedChange (by-value popOf (a .r) s (pop-sized (a .r) s) _ _ _ _ (c .before .before .before .pop-in .ensures))
 
 pub pop-spec : {M : Type 1} → statement M
 pop-spec =

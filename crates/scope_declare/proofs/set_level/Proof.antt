@@ -1,5 +1,7 @@
 -- `scope_declare::set_level` meets its contract: as `add`.
+use mathlib.Core.Path.{ap}
 use borrow.Author.Needs.{needs}
+use Rattle.scope_table.specs.Answer.{numberedChange}
 use Rattle.scope_change.specs.Change.{levelOf}
 use Rattle.scope_declare.proofs.Laws.{FullSize, level-sized, by-value}
 use Rattle.scope_declare.proofs.set_level.Statement.{statement}
@@ -18,7 +20,7 @@ returns : tie.Need-returns
 returns c =
     let a = c .before .before .before .before .before .before .before .before .before .args in
     let s : FullSize (a .r) = record { text = search needs; records = search needs } in
-    by-value (levelOf (a .to)) (a .r) s (level-sized (a .to) (a .r) s) _ _ _ _ (c .before .before .before .set-level-in .ensures)
+    ap numberedChange (by-value (levelOf (a .to)) (a .r) s (level-sized (a .to) (a .r) s) _ _ _ _ (c .before .before .before .set-level-in .ensures))
 
 pub set-level-spec : {M : Type 1} → statement M
 set-level-spec =

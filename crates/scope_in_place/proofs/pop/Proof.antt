@@ -35,6 +35,7 @@ use denote.Triple.Spec.{Meets, tripleOf}
 use denote.Triple.Table.{entered, cited}
 use denote.Triple.Clauses.{ensured, lasts}
 use denote.Triple.Walked.{says, Stays, stay-ref, walkOf, AllGo, goes-ref, Walks, ends-at, walked, walk-meets}
+use Rattle.scope_table.specs.Answer.{numberedChange}
 use Rattle.scope_table.specs.declared.NamespaceResolver.{NamespaceResolver}
 use Rattle.scope_table.specs.declared.Changed.{Changed}
 use Rattle.scope_declare.specs.Declare.{popOf}
@@ -64,8 +65,8 @@ module _ {M : Type 1} (𝓤 : URA M) (H : Heap 𝓤) (A : Atoms 𝓤) (at-mem : 
   G = tripleOf 𝓤 H A g.signature (g.spec 𝓤 H A at-mem run)
 
   -- of what it ensures, the clause alone
-  said : (h : NamespaceResolver) (r : Changed) → ent 𝓤 (ensured 𝓤 H A g.ended (g.clauses 𝓤 H A at-mem run) tt (h, tt) tt r) (fact 𝓤 (r ≡ popOf h))
-  said h r = exE 𝓤 _ (λ ws. snd∗ 𝓤 (sem 𝓤 H A (lasts g.ended tt (h, tt) ws)) (fact 𝓤 (r ≡ popOf h)))
+  said : (h : NamespaceResolver) (r : Changed) → ent 𝓤 (ensured 𝓤 H A g.ended (g.clauses 𝓤 H A at-mem run) tt (h, tt) tt r) (fact 𝓤 (numberedChange r ≡ numberedChange (popOf h)))
+  said h r = exE 𝓤 _ (λ ws. snd∗ 𝓤 (sem 𝓤 H A (lasts g.ended tt (h, tt) ws)) (fact 𝓤 (numberedChange r ≡ numberedChange (popOf h))))
 
 module _ {M : Type 1} (𝓤 : URA M) (H : Heap 𝓤) (A : Atoms 𝓤) (W : Given 𝓤 H A) (at-mem : Memory → SProp 𝓤) (run : Routine → Fun 𝓤) (κ : Lft) (q : Share) (b o : ℕ) (γ : GName) (h : NamespaceResolver) where
   abbrev x : Arg
@@ -80,12 +81,12 @@ module _ {M : Type 1} (𝓤 : URA M) (H : Heap 𝓤) (A : Atoms 𝓤) (W : Given
   abbrev Post : Val → SProp 𝓤
   Post = walkOf 𝓤 H A f.ended stayed (f.clauses 𝓤 H A at-mem run) .post (((κ, tt), (q, tt), tt, x, at), tt)
 
-  exits : (r : Changed) (vs : List Val) → Is D.the-row r vs → r ≡ popOf h
+  exits : (r : Changed) (vs : List Val) → Is D.the-row r vs → numberedChange r ≡ numberedChange (popOf h)
       → ent 𝓤 (sep 𝓤 (A .obs γ (T.the-row .coded .code (r .resolver))) (sep 𝓤 (A .bor κ (Body (mem T.the-row) b o γ)) (A .lft κ q))) (Post (told (r .answer)))
   exits r vs is e =
       qed W (‵ (fobs γ (T.the-row .coded .code (r .resolver))) ∷ ‵ (fbor κ (Body (mem T.the-row) b o γ)) ∷ ‵ (flft κ q) ∷ []) ∵
       suffices ! _ (ends-at 𝓤 H A f.ended stayed (f.clauses 𝓤 H A at-mem run) W (((κ, tt), (q, tt), tt, x, at), tt) (told (r .answer)) (r .answer) (r .resolver, tt) (tt, tt)) $
-      says ! (ap (λ (d : Changed). d .answer) e, ap (λ (d : Changed). d .resolver) e) $ nothing ! $ move ! (3 ∷ 0 ∷ []) $ join ! $
+      says ! e $ nothing ! $ move ! (3 ∷ 0 ∷ []) $ join ! $
       frame ! $ feqI ! (List Val) (vptr b o ∷ []) (vptr b o ∷ []) refl $ fjoin3 ! $ nothing ! $ move ! (1 ∷ 0 ∷ []) $ fjoin ! $
       owned ! E.the-row (Is E.the-row) (answer-makes 𝓤 H A) (r .answer) _ (answer-is r vs is) $ move ! (1 ∷ 0 ∷ []) $ done !
 
@@ -111,7 +112,7 @@ module _ {M : Type 1} (𝓤 : URA M) (H : Heap 𝓤) (A : Atoms 𝓤) (W : Given
         -- [the callee's pre; the struct's cell; the open borrow; obs; auth; _3; …; room for _2; …; _1; …; room for _0; …]
         calls-at ! fm (G 𝓤 H A at-mem run) known to-g (and-then ! (load ! (from ! (stop !)) (look ! 5 refl)) (no-more !)) (λ w.
         use1 W (later (some (λ (r : Changed). (‵ ftrue ⊛ ‵ (D.the-row .own r (w ∷ []))) ⊛ raw (ensured 𝓤 H A g.ended (g.clauses 𝓤 H A at-mem run) tt (h, tt) tt r)))) (id⊢ 𝓤 _) $ await ! tt $ pick ! (λ r.
-        split ! $ move ! (1 ∷ []) $ use1 W (raw (fact 𝓤 (r ≡ popOf h))) (said 𝓤 H A at-mem run h r) $ heard ! (r ≡ popOf h) (λ e. split ! $ drop ! $
+        split ! $ move ! (1 ∷ []) $ use1 W (raw (fact 𝓤 (numberedChange r ≡ numberedChange (popOf h)))) (said 𝓤 H A at-mem run h r) $ heard ! (numberedChange r ≡ numberedChange (popOf h)) (λ e. split ! $ drop ! $
         peeks ! D.the-row (Is D.the-row) (shows 𝓤 H A D.the-row) r (w ∷ []) (λ is.
         -- [what r owns; the struct's cell; the open borrow; obs; auth; _3; …; room for _2; …; _1; …; room for _0; …]
         land ! (from ! (stop !)) (init ! 7 refl (changed-laws 𝓤 H A W .typed r _ is .0)) $

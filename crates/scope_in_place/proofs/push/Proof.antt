@@ -40,6 +40,7 @@ use denote.Triple.Table.{entered, cited}
 use denote.Triple.Clauses.{ensured, lasts}
 use denote.Triple.Walked.{says, Stays, stay-ref, stay-none, stay-none-slice, walkOf, AllGo, goes-none, goes-none-slice, goes-ref, Walks, ends-at, walked, walk-meets}
 use denote.Exit.{yes}
+use Rattle.scope_table.specs.Answer.{numberedChange}
 use Rattle.scope_table.specs.declared.NamespaceResolver.{NamespaceResolver}
 use Rattle.scope_table.specs.declared.Changed.{Changed}
 use Rattle.scope_push.specs.Push.{pushOf}
@@ -102,15 +103,15 @@ module _ {M : Type 1} (𝓤 : URA M) (H : Heap 𝓤) (A : Atoms 𝓤) (W : Given
   Post = walkOf 𝓤 H A f.ended stayed (f.clauses 𝓤 H A at-mem run) .post (((κ, (κ₁, tt)), (q, (q₁, tt)), tt, x, at), tt)
 
   -- of what the callee ensures, the clause alone
-  said : (r : Changed) → ent 𝓤 (ensured 𝓤 H A g.ended (g.clauses 𝓤 H A at-mem run) (κ₁, tt) (h, (p, (n, tt))) tt r) (fact 𝓤 (r ≡ found))
-  said r = exE 𝓤 _ (λ ws. snd∗ 𝓤 (sem 𝓤 H A (lasts g.ended (κ₁, tt) (h, (p, (n, tt))) ws)) (fact 𝓤 (r ≡ found)))
+  said : (r : Changed) → ent 𝓤 (ensured 𝓤 H A g.ended (g.clauses 𝓤 H A at-mem run) (κ₁, tt) (h, (p, (n, tt))) tt r) (fact 𝓤 (numberedChange r ≡ numberedChange found))
+  said r = exE 𝓤 _ (λ ws. snd∗ 𝓤 (sem 𝓤 H A (lasts g.ended (κ₁, tt) (h, (p, (n, tt))) ws)) (fact 𝓤 (numberedChange r ≡ numberedChange found)))
 
-  exits : (r : Changed) (vs : List Val) → Is D.the-row r vs → r ≡ found
+  exits : (r : Changed) (vs : List Val) → Is D.the-row r vs → numberedChange r ≡ numberedChange found
       → ent 𝓤 (⋆ 𝓤 H A (‵ (fobs γ (T.the-row .coded .code (r .resolver))) ∷ ‵ (fbor κ (Body (mem T.the-row) b o γ)) ∷ ‵ (flft κ q) ∷ (‵ (flft κ₁ q₁) ⊛ ‵ ftrue) ∷ ‵ Rest ∷ [])) (Post (told (r .answer)))
   exits r vs is e =
       qed W (‵ (fobs γ (T.the-row .coded .code (r .resolver))) ∷ ‵ (fbor κ (Body (mem T.the-row) b o γ)) ∷ ‵ (flft κ q) ∷ (‵ (flft κ₁ q₁) ⊛ ‵ ftrue) ∷ ‵ Rest ∷ []) ∵
       suffices ! _ (ends-at 𝓤 H A f.ended stayed (f.clauses 𝓤 H A at-mem run) W (((κ, (κ₁, tt)), (q, (q₁, tt)), tt, x, at), tt) (told (r .answer)) (r .answer) (r .resolver, (tt, (tt, tt))) (tt, (tt, (tt, tt)))) $
-      says ! (ap (λ (d : Changed). d .answer) e, ap (λ (d : Changed). d .resolver) e) $ move ! (2 ∷ 3 ∷ []) $ join ! $
+      says ! e $ move ! (2 ∷ 3 ∷ []) $ join ! $
       frame ! $ feqI ! (List Val) (vptr b o ∷ []) (vptr b o ∷ []) refl $ fjoin3 ! $ fjoin ! $
       owned ! E.the-row (Is E.the-row) (answer-makes 𝓤 H A) (r .answer) _ (answer-is r vs is) $ move ! (1 ∷ 0 ∷ []) $ done !
 
@@ -148,7 +149,7 @@ module _ {M : Type 1} (𝓤 : URA M) (H : Heap 𝓤) (A : Atoms 𝓤) (W : Given
         -- [the callee's pre; what the tag and the number own; the struct's cell; the open borrow; obs; auth; _5; …; room for _4; …; _3; …; _2; …; _1; …; room for _0; …]
         calls-at ! fm (G 𝓤 H A at-mem run) known to-g (and-then ! (load ! (from ! (stop !)) (look ! 6 refl)) (and-then ! (load ! (from ! (stop !)) (look ! 12 refl)) (and-then ! (load ! (from ! (stop !)) (look ! 10 refl)) (no-more !)))) (λ w.
         use1 W (later (some (λ (r : Changed). ((‵ (flft κ₁ q₁) ⊛ ‵ ftrue) ⊛ ‵ (D.the-row .own r (w ∷ []))) ⊛ raw (ensured 𝓤 H A g.ended (g.clauses 𝓤 H A at-mem run) (κ₁, tt) (h, (p, (n, tt))) tt r)))) (id⊢ 𝓤 _) $ await ! tt $ pick ! (λ r.
-        split ! $ move ! (1 ∷ []) $ use1 W (raw (fact 𝓤 (r ≡ found))) (said r) $ heard ! (r ≡ found) (λ e. split ! $ move ! (1 ∷ []) $
+        split ! $ move ! (1 ∷ []) $ use1 W (raw (fact 𝓤 (numberedChange r ≡ numberedChange found))) (said r) $ heard ! (numberedChange r ≡ numberedChange found) (λ e. split ! $ move ! (1 ∷ []) $
         peeks ! D.the-row (Is D.the-row) (shows 𝓤 H A D.the-row) r (w ∷ []) (λ is.
         -- [what r owns; the tag's token; what the tag and the number own; the struct's cell; the open borrow; obs; auth; _5; …; room for _4; …; _3; …; _2; …; _1; …; room for _0; …]
         land ! (from ! (stop !)) (init ! 9 refl (changed-laws 𝓤 H A W .typed r _ is .0)) $

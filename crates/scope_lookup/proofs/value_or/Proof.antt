@@ -2,11 +2,11 @@
 use Prim.Native.Nat.{ℕ, zero, suc, _-_, _<_, _≤_}
 use mathlib.Core.Path.{_≡_, refl, sym, ap, _∙_}
 use native.Mathlib.Omega.{arith}
-use Rattle.scope_table.specs.Records.{recordAt, valueStart, valueEnd}
+use Rattle.scope_table.specs.Records.{recordAt, valueEnd}
 use Rattle.scope_table.specs.Table.{TEXT}
 use Rattle.scope_table.specs.declared.NamespaceBinding.{NamespaceBinding}
 use Rattle.scope_lookup.specs.declared.Resolved.{Resolved}
-use Rattle.scope_lookup.specs.declared.Resolved.the-variants.{Bound}
+use Rattle.scope_lookup.specs.Lookup.{boundBy}
 use Rattle.scope_lookup.proofs.Laws.{row-lent, record-ends, value-none, value-empty, value-has}
 use Rattle.scope_lookup.proofs.value_or.Statement.{statement}
 use Rattle.scope_lookup.proofs.value_or.Tie as tie
@@ -51,7 +51,7 @@ add-t7 c = omega (arith, ends (c .before .before .before .before))
 returns-3 : tie.Need-returns-3
 returns-3 c =
     let a = c .before .before .before .before .before .before .before .args in
-    ap (λ (b : NamespaceBinding). Bound (valueStart b) (valueEnd b)) (c .before .before .before .before .record-at .ensures) ∙ value-has (recordAt (a .records .now)) (a .other) (a .n) (some (a .n) (c .before .before .before .before .before .if1 .left)) (λ e. c .before .before .if2 .left (ap (λ (b : NamespaceBinding). b .«value_len») (c .before .before .before .before .record-at .ensures) ∙ e))
+    ap boundBy (c .before .before .before .before .record-at .ensures) ∙ value-has (recordAt (a .records .now)) (a .other) (a .n) (some (a .n) (c .before .before .before .before .before .if1 .left)) (λ e. c .before .before .if2 .left (ap (λ (b : NamespaceBinding). b .«value_len») (c .before .before .before .before .record-at .ensures) ∙ e))
 
 pub value-or-spec : {M : Type 1} → statement M
 value-or-spec =

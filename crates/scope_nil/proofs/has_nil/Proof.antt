@@ -1,8 +1,9 @@
 -- `scope_nil::has_nil` meets its contract: it lends the tables of both, which have full size, and puts the iterator together
 -- again.
-use mathlib.Core.Path.{_≡_, ap, _∙_}
+use mathlib.Core.Path.{ap, _∙_}
 use borrow.Author.Needs.{needs}
 use Rattle.tag_step.proofs.Good.{Sized}
+use Rattle.scope_nil.specs.Nil.{numberedNil}
 use Rattle.scope_nil.proofs.Lent.{full-in}
 use Rattle.scope_nil.proofs.has_nil.Statement.{statement}
 use Rattle.scope_nil.proofs.has_nil.Tie as tie
@@ -19,7 +20,7 @@ has-nil-in-requires c κs = search needs
 returns : tie.Need-returns
 returns c =
     let a = c .before .before .before .before .before .before .before .before .before .before .before .before .before .before .args in
-    c .before .before .has-nil-in .ensures ∙ full-in (a .tag .now) (a .state) (a .t3) (search needs) (search needs) (search needs) (search needs)
+    ap numberedNil (c .before .before .has-nil-in .ensures ∙ full-in (a .tag .now) (a .state) (a .t3) (search needs) (search needs) (search needs) (search needs))
 
 pub has-nil-spec : {M : Type 1} → statement M
 has-nil-spec =

@@ -9,7 +9,7 @@ use Rattle.tag_step.specs.Next.{stateGood}
 use Rattle.scope_table.specs.Table.{resolverOf}
 use Rattle.scope_table.proofs.Good.{ready}
 use Rattle.scope_lookup.proofs.Padded.{ready-inside}
-use Rattle.scope_nil.specs.Nil.{standsAt, leftBy}
+use Rattle.scope_nil.specs.Nil.{standsAt, nilLeftBy}
 use Rattle.scope_nil.specs.declared.Left.{Left}
 use Rattle.scope_nil.proofs.Lent.{keys-fit, keys-long, ends-long, in-long, in-wrong, in-bad, in-7, in-search, full-search}
 use Rattle.scope_nil.proofs.has_nil_in.Statement.{statement}
@@ -22,7 +22,7 @@ returns : tie.Need-returns
 returns c =
     let a = c .before .before .before .before .before .before .before .args in
     let st = standsAt (a .at) (a .starts .now) (a .ends .now) in
-    ap (λ (l : Left). leftBy (a .at) l (a .starts .now) (a .ends .now)) (c .unmoved .ensures)
+    ap (λ (l : Left). nilLeftBy (a .at) l (a .starts .now) (a .ends .now)) (c .unmoved .ensures)
     ∙ in-long (a .tag .now) st (a .text .now) (a .records .now) (a .head) (keys-long st (c .before .if1 .taken))
 
 unmoved-requires-2 : tie.Need-unmoved-requires-2
@@ -32,7 +32,7 @@ returns-2 : tie.Need-returns-2
 returns-2 c =
     let a = c .before .before .before .before .before .before .before .before .args in
     let st = standsAt (a .at) (a .starts .now) (a .ends .now) in
-    ap (λ (l : Left). leftBy (a .at) l (a .starts .now) (a .ends .now)) (c .unmoved2 .ensures)
+    ap (λ (l : Left). nilLeftBy (a .at) l (a .starts .now) (a .ends .now)) (c .unmoved2 .ensures)
     ∙ in-long (a .tag .now) st (a .text .now) (a .records .now) (a .head) (ends-long st (c .before .before .if1 .left) (c .before .if2 .taken))
 
 form-in-requires : tie.Need-form-in-requires
@@ -51,7 +51,7 @@ returns-3 : tie.Need-returns-3
 returns-3 c =
     let a = c .before .before .before .before .before .before .before .before .before .before .before .args in
     let st = standsAt (a .at) (a .starts .now) (a .ends .now) in
-    ap (λ (l : Left). leftBy (a .at) l (a .starts .now) (a .ends .now)) (c .unmoved3 .ensures)
+    ap (λ (l : Left). nilLeftBy (a .at) l (a .starts .now) (a .ends .now)) (c .unmoved3 .ensures)
     ∙ in-bad (a .tag .now) st (a .text .now) (a .records .now) (a .head) (keys-fit st (c .before .before .before .before .before .if1 .left) (c .before .before .before .before .if2 .left)) (sym (c .before .before .before .form-in .ensures) ∙ c .before .enum-told2 .given .1)
 
 enum-told-3 : tie.Need-enum-told-3
@@ -64,7 +64,7 @@ returns-4 : tie.Need-returns-4
 returns-4 c =
     let a = c .before .before .before .before .before .before .before .before .before .before .before .args in
     let st = standsAt (a .at) (a .starts .now) (a .ends .now) in
-    ap (λ (l : Left). leftBy (a .at) l (a .starts .now) (a .ends .now)) (c .unmoved4 .ensures)
+    ap (λ (l : Left). nilLeftBy (a .at) l (a .starts .now) (a .ends .now)) (c .unmoved4 .ensures)
     ∙ in-wrong (a .tag .now) st (a .text .now) (a .records .now) (a .head) (keys-fit st (c .before .before .before .before .before .if1 .left) (c .before .before .before .before .if2 .left)) (sym (c .before .before .before .form-in .ensures) ∙ c .before .enum-told3 .given .1)
 
 good-in-requires : tie.Need-good-in-requires

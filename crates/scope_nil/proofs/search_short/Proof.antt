@@ -4,7 +4,7 @@ use native.Mathlib.Omega.{arith}
 use borrow.Author.Needs.{needs}
 use borrow.Author.Tests.{not-true, not-false}
 use Rattle.scope_table.specs.Table.{resolverOf}
-use Rattle.scope_nil.specs.Nil.{leftBy}
+use Rattle.scope_nil.specs.Nil.{nilLeftBy}
 use Rattle.scope_nil.specs.declared.Left.{Left}
 use Rattle.scope_nil.proofs.Lent.{copy-searchable, left-sized, short-more, short-held}
 use Rattle.scope_nil.proofs.search_short.Statement.{statement}
@@ -51,7 +51,7 @@ returns c =
     let s = c .before .before .before .before .before .before .before .before .before .before .before .before .before .before .before .before .before .before .before .before .before .before .before in
     let a = s .args in
     let r = c .before .before .before .before .before .before .before .search in
-    ap (λ (l : Left). leftBy (a .at) l (a .starts .now) (a .ends .now)) (c .unmoved .ensures)
+    ap (λ (l : Left). nilLeftBy (a .at) l (a .starts .now) (a .ends .now)) (c .unmoved .ensures)
     ∙ short-more (resolverOf (a .text .now) (a .records .now) (a .head)) (a .tag .now) (a .at) (a .starts .now) (a .ends .now) (s .pre .0) (c .before .before .before .before .before .before .before .before .before .before .before .before .before .before .before .copy .last .0) (c .before .before .before .before .before .before .before .before .before .before .before .copy2 .last .0) (c .before .before .before .before .before .before .before .before .before .before .before .before .before .before .before .copy .ensures) (c .before .before .before .before .before .before .before .before .before .before .before .copy2 .ensures) (r .result) (r .last .1 .0) (r .last .1 .1 .0) (r .ensures) (sym (c .before .before .holds .ensures) ∙ not-true _ (c .before .if1 .taken))
 
 slice-aggregate-copy-3 : tie.Need-slice-aggregate-copy-3

@@ -1,5 +1,7 @@
 -- `scope_push::push` meets its contract: the arrays are lent whole, and what is put together is what they became.
+use mathlib.Core.Path.{ap}
 use borrow.Author.Needs.{needs}
+use Rattle.scope_table.specs.Answer.{numberedChange}
 use Rattle.scope_declare.proofs.Laws.{FullSize, by-value}
 use Rattle.scope_push.specs.Push.{pushOf}
 use Rattle.scope_push.proofs.Laws.{push-sized}
@@ -19,7 +21,7 @@ returns : tie.Need-returns
 returns c =
     let a = c .before .before .before .before .before .before .before .before .before .before .args in
     let s : FullSize (a .r) = record { text = search needs; records = search needs } in
-    by-value (pushOf (a .tag .now) (a .from)) (a .r) s (push-sized (a .tag .now) (a .from) (a .r) s) _ _ _ _ (c .before .before .before .push-in .ensures)
+    ap numberedChange (by-value (pushOf (a .tag .now) (a .from)) (a .r) s (push-sized (a .tag .now) (a .from) (a .r) s) _ _ _ _ (c .before .before .before .push-in .ensures))
 
 pub push-spec : {M : Type 1} → statement M
 push-spec =

@@ -53,17 +53,17 @@ same-length-6 c = search needs
 
 returns-3 : tie.Need-returns-3
 returns-3 c =
-    let a = c .before .before .before .before .before .before .before .before .before .args in
-    let g : Ready (a .text .now) (a .records .now) (a .head) = ready (a .text .now) (a .records .now) (a .head) (sym (c .before .before .before .form-in .ensures) ∙ c .before .enum-told .given .1) in
+    let a = c .before .before .before .before .before .before .before .before .before .before .args in
+    let g : Ready (a .text .now) (a .records .now) (a .head) = ready (a .text .now) (a .records .now) (a .head) (sym (c .before .before .before .before .form-in .ensures) ∙ c .before .before .enum-told .given .1) in
     too-deep (a .tag .now) (a .from) (a .text .now) (a .records .now) (a .head) g (le-leb _ _ (c .if1 .taken))
 
-add-t22 : tie.Need-add-t22
-add-t22 c = search needs
+add-raised : tie.Need-add-raised
+add-raised c = search needs
 
 take-all-requires : tie.Need-take-all-requires
 take-all-requires c κs =
-    let a = c .before .before .before .before .before .before .before .before .before .before .before .args in
-    let g : Ready (a .text .now) (a .records .now) (a .head) = ready (a .text .now) (a .records .now) (a .head) (sym (c .before .before .before .before .before .form-in .ensures) ∙ c .before .before .before .enum-told .given .1) in
+    let a = c .before .before .before .before .before .before .before .before .before .before .before .before .before .args in
+    let g : Ready (a .text .now) (a .records .now) (a .head) = ready (a .text .now) (a .records .now) (a .head) (sym (c .before .before .before .before .before .before .before .form-in .ensures) ∙ c .before .before .before .before .before .enum-told .given .1) in
     record { fit = g .fit; few-records = omega arith; few-bytes = omega arith }
 
 enum-told-4 : tie.Need-enum-told-4
@@ -77,14 +77,14 @@ same-length-8 c = search needs
 
 returns-4 : tie.Need-returns-4
 returns-4 c =
-    let a = c .before .before .before .before .before .before .before .before .before .before .before .before .before .before .before .before .before .args in
-    let g : Ready (a .text .now) (a .records .now) (a .head) = ready (a .text .now) (a .records .now) (a .head) (sym (c .before .before .before .before .before .before .before .before .before .before .before .form-in .ensures) ∙ c .before .before .before .before .before .before .before .before .before .enum-told .given .1) in
-    push-went (a .tag .now) (a .from) (a .text .now) (a .records .now) (a .head) g (lt-leb _ _ (c .before .before .before .before .before .before .before .before .if1 .left)) (c .before .before .before .before .before .take-all .result .answer) (c .before .before .before .before .before .take-all .last .0) (c .before .before .before .before .before .take-all .last .1 .0) (c .before .before .before .before .before .take-all .result .head) (c .before .before .before .before .before .take-all .ensures) (not-more (c .before .before .before .before .before .take-all .result .answer) (c .match2 .keys2))
+    let a = c .before .before .before .before .before .before .before .before .before .before .before .before .before .before .before .before .before .before .before .args in
+    let g : Ready (a .text .now) (a .records .now) (a .head) = ready (a .text .now) (a .records .now) (a .head) (sym (c .before .before .before .before .before .before .before .before .before .before .before .before .before .form-in .ensures) ∙ c .before .before .before .before .before .before .before .before .before .before .before .enum-told .given .1) in
+    push-went (a .tag .now) (a .from) (a .text .now) (a .records .now) (a .head) g (lt-leb _ _ (c .before .before .before .before .before .before .before .before .before .if1 .left)) (c .before .before .before .before .before .take-all .result .answer) (c .before .before .before .before .before .take-all .last .0) (c .before .before .before .before .before .take-all .last .1 .0) (c .before .before .before .before .before .take-all .result .head) (c .before .before .before .before .before .take-all .ensures) (not-more (c .before .before .before .before .before .take-all .result .answer) (c .match2 .keys2))
 
 take-back-requires : tie.Need-take-back-requires
 take-back-requires c κs =
-    let a = c .before .before .before .before .before .before .before .before .before .before .before .before .before .before .before .before .before .before .before .before .args in
-    ready (a .text .now) (a .records .now) (a .head) (sym (c .before .before .before .before .before .before .before .before .before .before .before .before .before .before .form-in .ensures) ∙ c .before .before .before .before .before .before .before .before .before .before .before .before .enum-told .given .1) .table .bounds .few-records
+    let a = c .before .before .before .before .before .before .before .before .before .before .before .before .before .before .before .before .before .before .before .before .before .before .args in
+    ready (a .text .now) (a .records .now) (a .head) (sym (c .before .before .before .before .before .before .before .before .before .before .before .before .before .before .before .before .form-in .ensures) ∙ c .before .before .before .before .before .before .before .before .before .before .before .before .before .before .enum-told .given .1) .table .few
 
 same-length-9 : tie.Need-same-length-9
 same-length-9 c = search needs
@@ -94,10 +94,10 @@ same-length-10 c = search needs
 
 returns-5 : tie.Need-returns-5
 returns-5 c =
-    let a = c .before .before .before .before .before .before .before .before .before .before .before .before .before .before .before .before .before .before .before .before .before .before .before .before .before .args in
-    let g : Ready (a .text .now) (a .records .now) (a .head) = ready (a .text .now) (a .records .now) (a .head) (sym (c .before .before .before .before .before .before .before .before .before .before .before .before .before .before .before .before .before .before .before .form-in .ensures) ∙ c .before .before .before .before .before .before .before .before .before .before .before .before .before .before .before .before .before .enum-told .given .1) in
+    let a = c .before .before .before .before .before .before .before .before .before .before .before .before .before .before .before .before .before .before .before .before .before .before .before .before .before .before .before .args in
+    let g : Ready (a .text .now) (a .records .now) (a .head) = ready (a .text .now) (a .records .now) (a .head) (sym (c .before .before .before .before .before .before .before .before .before .before .before .before .before .before .before .before .before .before .before .before .before .form-in .ensures) ∙ c .before .before .before .before .before .before .before .before .before .before .before .before .before .before .before .before .before .before .before .enum-told .given .1) in
     rw (c .before .before .before .before .take-back .ensures .0, c .before .before .before .before .take-back .ensures .1)
-    (push-back (a .tag .now) (a .from) (a .text .now) (a .records .now) (a .head) g (lt-leb _ _ (c .before .before .before .before .before .before .before .before .before .before .before .before .before .before .before .before .if1 .left)) (c .before .before .before .before .before .before .before .before .before .before .before .before .before .take-all .result .answer) (c .before .before .before .before .before .before .before .before .before .before .before .before .before .take-all .last .0) (c .before .before .before .before .before .before .before .before .before .before .before .before .before .take-all .last .1 .0) (c .before .before .before .before .before .before .before .before .before .before .before .before .before .take-all .result .head) (c .before .before .before .before .before .before .before .before .before .before .before .before .before .take-all .ensures) (c .before .before .before .before .before .before .before .enum-told4 .given .1))
+    (push-back (a .tag .now) (a .from) (a .text .now) (a .records .now) (a .head) g (lt-leb _ _ (c .before .before .before .before .before .before .before .before .before .before .before .before .before .before .before .before .before .if1 .left)) (c .before .before .before .before .before .before .before .before .before .before .before .before .before .take-all .result .answer) (c .before .before .before .before .before .before .before .before .before .before .before .before .before .take-all .last .0) (c .before .before .before .before .before .before .before .before .before .before .before .before .before .take-all .last .1 .0) (c .before .before .before .before .before .before .before .before .before .before .before .before .before .take-all .result .head) (c .before .before .before .before .before .before .before .before .before .before .before .before .before .take-all .ensures) (c .before .before .before .before .before .before .before .enum-told4 .given .1))
 
 pub push-in-spec : {M : Type 1} → statement M
 push-in-spec =
@@ -116,7 +116,7 @@ push-in-spec =
     same-length-5
     same-length-6
     returns-3
-    add-t22
+    add-raised
     take-all-requires
     enum-told-4
     same-length-7

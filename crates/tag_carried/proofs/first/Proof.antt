@@ -39,23 +39,25 @@ use denote.Triple.Spec.{Meets, tripleOf}
 use denote.Triple.Table.{entered, cited}
 use denote.Triple.Walked.{says, Stays, stay-none, stay-none-slice, walkOf, goes-none, goes-none-slice, Walks, ends-at, walked, walk-meets}
 use denote.Exit.{yes}
+use Rattle.tag_step.specs.Numbers.{numbersOf}
 use Rattle.tag_step.specs.declared.Answer.{Answer}
+use Rattle.tag_step.proofs.Numbers.{numbers-apart}
 use Rattle.tag_step.proofs.Answer as E
 use Rattle.tag_step.proofs.Answer.Laws as E′
 use Rattle.tag_carried.specs.Held.{openedOn, answerOf, afterNext}
 use Rattle.tag_carried.specs.declared.Attributes.{Attributes}
 use Rattle.tag_carried.proofs.Attributes.Laws as T′
-use Rattle.tag_carried.proofs.Calls.{returned}
+use Rattle.law_calls.proofs.Calls.{returned}
 use Rattle.tag_carried.proofs.Parts.{Row, D, L, tagVal, tagOwn}
 use Rattle.tag_carried.proofs.Loan.{Rest, begins, ends, lends, comes-back}
-use Rattle.tag_carried.proofs.new as new
-use Rattle.tag_carried.proofs.new.Symbol as new-def
-use Rattle.tag_carried.proofs.new.Symbol.{name as #new}
-use Rattle.tag_carried.proofs.new.Met as new-thm
-use Rattle.tag_carried.proofs.next as next
-use Rattle.tag_carried.proofs.next.Symbol as next-def
-use Rattle.tag_carried.proofs.next.Symbol.{name as #next}
-use Rattle.tag_carried.proofs.next.Met as next-thm
+use Rattle.tag_carried.proofs.Attributes.new as new
+use Rattle.tag_carried.proofs.Attributes.new.Symbol as new-def
+use Rattle.tag_carried.proofs.Attributes.new.Symbol.{name as #new}
+use Rattle.tag_carried.proofs.Attributes.new.Met as new-thm
+use Rattle.tag_carried.proofs.Attributes.next as next
+use Rattle.tag_carried.proofs.Attributes.next.Symbol as next-def
+use Rattle.tag_carried.proofs.Attributes.next.Symbol.{name as #next}
+use Rattle.tag_carried.proofs.Attributes.next.Met as next-thm
 use Rattle.tag_carried.proofs.first.Key.{name as #f}
 use Rattle.tag_carried.proofs.first as f
 use Rattle.tag_carried.proofs.first.Statement as stated
@@ -159,7 +161,7 @@ module _ {M : Type 1} (𝓤 : URA M) (H : Heap 𝓤) (A : Atoms 𝓤) (W : Given
         -- [what `next` asks; the lender's part; the atom's rest; what the tag owns; what pos owns; _5; …; _4; …; _3's end; _2; …; _1; …; room for _0; …]
         calls-at ! fm (Next 𝓤 H A at-mem run) known-next (to-next β l₃ γ) (and-then ! (load ! (from ! (stop !)) (look ! 5 refl)) (no-more !)) (λ w.
         use1 W (later ((‵ (flft (β ∷ κ) (PosShare·left q)) ⊛ ‵ (flft κ (PosShare·right q)) ⊛ ‵ ftrue) ⊛ ‵ (E.the-row .own answer (w ∷ []))))
-        (returned 𝓤 H A W next.ended (next.clauses 𝓤 H A at-mem run) (to-next β l₃ γ) answer (λ r e. fact-mono 𝓤 ((r ≡ answer) × (now (e .0) ≡ afterNext it)) (r ≡ answer) (λ both. both .0)) w) $ await ! tt $
+        (returned 𝓤 H A W next.ended (next.clauses 𝓤 H A at-mem run) (to-next β l₃ γ) answer (λ r e. fact-mono 𝓤 ((numbersOf r ≡ numbersOf answer) × (now (e .0) ≡ afterNext it)) (r ≡ answer) (λ both. numbers-apart r answer (both .0))) w) $ await ! tt $
         split ! $ split3 ! $ move ! (2 ∷ []) $ drop ! $ move ! (2 ∷ []) $
         -- [what the answer owns; both tokens; the lender's part; the atom's rest; what the tag owns; what pos owns; _5; …; _4; …; _3's end; _2; …; _1; …; room for _0; …]
         peeks ! E.the-row (Is E.the-row) (shows 𝓤 H A E.the-row) answer (w ∷ []) (λ is′.
@@ -188,5 +190,5 @@ first-spec 𝓤 H 𝓜 𝓖 𝓡 =
     entered 𝓤 H (tripleOf 𝓤 H (𝓖 .A) f.signature (f.spec 𝓤 H (𝓖 .A) (𝓜 .mem) (𝓡 .run)))
     (tables 𝓤 H 𝓜 𝓡 code.env .C) (tables 𝓤 H 𝓜 𝓡 code.env .Λ) #f code.function (code.unfolded 𝓤 H 𝓜 𝓡)
     (meets 𝓤 H (𝓖 .A) (givenOf 𝓤 H 𝓜 𝓖) (𝓜 .mem) (𝓡 .run) (tablesOf 𝓤 H 𝓜 (tables 𝓤 H 𝓜 𝓡 code.env))
-    (cited 𝓤 H (New 𝓤 H (𝓖 .A) (𝓜 .mem) (𝓡 .run)) 𝓜 𝓡 code.env #new new-def.routine code.calls-tag-carried·new (new-thm.met 𝓤 H 𝓜 𝓖 𝓡))
-    (cited 𝓤 H (Next 𝓤 H (𝓖 .A) (𝓜 .mem) (𝓡 .run)) 𝓜 𝓡 code.env #next next-def.routine code.calls-tag-carried·next (next-thm.met 𝓤 H 𝓜 𝓖 𝓡)))
+    (cited 𝓤 H (New 𝓤 H (𝓖 .A) (𝓜 .mem) (𝓡 .run)) 𝓜 𝓡 code.env #new new-def.routine code.calls-tag-carried·Attributes·new (new-thm.met 𝓤 H 𝓜 𝓖 𝓡))
+    (cited 𝓤 H (Next 𝓤 H (𝓖 .A) (𝓜 .mem) (𝓡 .run)) 𝓜 𝓡 code.env #next next-def.routine code.calls-tag-carried·Attributes·next (next-thm.met 𝓤 H 𝓜 𝓖 𝓡)))

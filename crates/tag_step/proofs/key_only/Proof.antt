@@ -1,6 +1,7 @@
 -- `tag_step::key_only` meets its contract: one law for the mode, and one for each verdict; a new key is recorded where the tables hold it.
 use mathlib.Core.Path.{refl, sym, _∙_}
 use borrow.Author.Tests.{not-true, not-false}
+use Rattle.tag_keys.proofs.Numbers.{checked-apart}
 use Rattle.tag_keys.proofs.Laws.{fresh-place}
 use Rattle.tag_step.proofs.Whole.{bare-xml, bare-fresh, bare-same, bare-full}
 use Rattle.tag_step.proofs.Taken.{written-fresh, written-same, written-full, took, took-same, bare-untaken}
@@ -36,10 +37,10 @@ same-length-2 : tie.Need-same-length-2
 same-length-2 c = search needs
 
 returns-2 : tie.Need-returns-2
-returns-2 c = bare-untaken _ _ _ _ _ _ _ _ _ (sym (c .before .before .before .before .before .before .before .check-for-duplicates .ensures) ∙ c .before .before .before .before .before .more .given .1) (sym (c .before .holds .ensures) ∙ not-true _ (c .if2 .taken)) (not-false _ (c .before .before .before .before .before .before .before .before .before .before .if1 .left))
+returns-2 c = bare-untaken _ _ _ _ _ _ _ _ _ (sym (checked-apart _ _ (c .before .before .before .before .before .before .before .check-for-duplicates .ensures)) ∙ c .before .before .before .before .before .more .given .1) (sym (c .before .holds .ensures) ∙ not-true _ (c .if2 .taken)) (not-false _ (c .before .before .before .before .before .before .before .before .before .before .if1 .left))
 
 record-key-requires : tie.Need-record-key-requires
-record-key-requires c κs = fresh-place _ _ _ _ _ _ _ _ (sym (c .before .before .before .before .before .before .before .before .before .check-for-duplicates .ensures) ∙ c .before .before .before .before .before .before .before .more .given .1) (sym (c .before .before .before .holds .ensures) ∙ not-false _ (c .before .before .if2 .left))
+record-key-requires c κs = fresh-place _ _ _ _ _ _ _ _ (sym (checked-apart _ _ (c .before .before .before .before .before .before .before .before .before .check-for-duplicates .ensures)) ∙ c .before .before .before .before .before .before .before .more .given .1) (sym (c .before .before .before .holds .ensures) ∙ not-false _ (c .before .before .if2 .left))
 
 enum-known-earlier : tie.Need-enum-known-earlier
 enum-known-earlier c = search needs
@@ -54,7 +55,7 @@ same-length-4 : tie.Need-same-length-4
 same-length-4 c = search needs
 
 returns-3 : tie.Need-returns-3
-returns-3 c = took _ _ _ (bare-fresh _ _ _ _ _ _ _ _ _ _ _ (c .before .before .before .before .before .before .before .before .before .before .before .before .before .before .check-for-duplicates .ensures) (written-fresh _ _ _ _ _ _ (c .before .before .before .before .before .before .before .before .before .before .before .before .more .given .1) (c .before .before .before .before .record-key .ensures .0)) (written-fresh _ _ _ _ _ _ (c .before .before .before .before .before .before .before .before .before .before .before .before .more .given .1) (c .before .before .before .before .record-key .ensures .1)) (not-false _ (c .before .before .before .before .before .before .before .before .before .before .before .before .before .before .before .before .before .if1 .left)) _ (c .before .before .before .before .before .before .before .before .before .before .before .before .before .before .before .before .before .before .place-at .ensures) _ (c .before .before .before .before .before .before .before .before .before .before .before .before .more .given .1)) (sym (c .before .before .before .before .before .before .before .before .holds .ensures) ∙ not-false _ (c .before .before .before .before .before .before .before .if2 .left))
+returns-3 c = took _ _ _ (bare-fresh _ _ _ _ _ _ _ _ _ _ _ (checked-apart _ _ (c .before .before .before .before .before .before .before .before .before .before .before .before .before .before .check-for-duplicates .ensures)) (written-fresh _ _ _ _ _ _ (c .before .before .before .before .before .before .before .before .before .before .before .before .more .given .1) (c .before .before .before .before .record-key .ensures .0)) (written-fresh _ _ _ _ _ _ (c .before .before .before .before .before .before .before .before .before .before .before .before .more .given .1) (c .before .before .before .before .record-key .ensures .1)) (not-false _ (c .before .before .before .before .before .before .before .before .before .before .before .before .before .before .before .before .before .if1 .left)) _ (c .before .before .before .before .before .before .before .before .before .before .before .before .before .before .before .before .before .before .place-at .ensures) _ (c .before .before .before .before .before .before .before .before .before .before .before .before .more .given .1)) (sym (c .before .before .before .before .before .before .before .before .holds .ensures) ∙ not-false _ (c .before .before .before .before .before .before .before .if2 .left))
 
 same-length-5 : tie.Need-same-length-5
 same-length-5 c = search needs
@@ -63,7 +64,7 @@ same-length-6 : tie.Need-same-length-6
 same-length-6 c = search needs
 
 returns-4 : tie.Need-returns-4
-returns-4 c = took-same _ _ (c .before .before .before .before .before .before .before .before .before .before .before .pre .0) _ _ (bare-same _ _ _ _ _ _ _ _ _ _ _ (c .before .before .before .check-for-duplicates .ensures) (written-same _ _ _ _ _ _ (c .before .earlier .given .1)) (written-same _ _ _ _ _ _ (c .before .earlier .given .1)) (not-false _ (c .before .before .before .before .before .before .if1 .left)) _ (c .before .before .before .before .before .before .before .place-at .ensures) _ (c .before .earlier .given .1)) refl
+returns-4 c = took-same _ _ (c .before .before .before .before .before .before .before .before .before .before .before .pre .0) _ _ (bare-same _ _ _ _ _ _ _ _ _ _ _ (checked-apart _ _ (c .before .before .before .check-for-duplicates .ensures)) (written-same _ _ _ _ _ _ (c .before .earlier .given .1)) (written-same _ _ _ _ _ _ (c .before .earlier .given .1)) (not-false _ (c .before .before .before .before .before .before .if1 .left)) _ (c .before .before .before .before .before .before .before .place-at .ensures) _ (c .before .earlier .given .1)) refl
 
 same-length-7 : tie.Need-same-length-7
 same-length-7 c = search needs
@@ -72,7 +73,7 @@ same-length-8 : tie.Need-same-length-8
 same-length-8 c = search needs
 
 returns-5 : tie.Need-returns-5
-returns-5 c = took-same _ _ (c .before .before .before .before .before .before .before .before .before .before .pre .0) _ _ (bare-full _ _ _ _ _ _ _ _ _ _ _ (c .before .before .check-for-duplicates .ensures) (written-full _ _ _ _ _ (c .enum-told .given .1)) (written-full _ _ _ _ _ (c .enum-told .given .1)) (not-false _ (c .before .before .before .before .before .if1 .left)) _ (c .before .before .before .before .before .before .place-at .ensures) (c .enum-told .given .1)) refl
+returns-5 c = took-same _ _ (c .before .before .before .before .before .before .before .before .before .before .pre .0) _ _ (bare-full _ _ _ _ _ _ _ _ _ _ _ (checked-apart _ _ (c .before .before .check-for-duplicates .ensures)) (written-full _ _ _ _ _ (c .enum-told .given .1)) (written-full _ _ _ _ _ (c .enum-told .given .1)) (not-false _ (c .before .before .before .before .before .if1 .left)) _ (c .before .before .before .before .before .before .place-at .ensures) (c .enum-told .given .1)) refl
 
 pub key-only-spec : {M : Type 1} → statement M
 key-only-spec =

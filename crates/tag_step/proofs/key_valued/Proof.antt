@@ -1,6 +1,7 @@
 -- `tag_step::key_valued` meets its contract: one law for each verdict; a new key is recorded where the tables hold it.
 use mathlib.Core.Path.{refl, sym, _∙_}
 use borrow.Author.Tests.{not-true, not-false}
+use Rattle.tag_keys.proofs.Numbers.{checked-apart}
 use Rattle.tag_keys.proofs.Laws.{fresh-place}
 use Rattle.tag_step.proofs.Whole.{valued-fresh, valued-same, valued-full}
 use Rattle.tag_step.proofs.Taken.{written-fresh, written-same, written-full, took, took-same, valued-untaken}
@@ -30,10 +31,10 @@ same-length-2 : tie.Need-same-length-2
 same-length-2 c = search needs
 
 returns : tie.Need-returns
-returns c = valued-untaken _ _ _ _ _ _ _ _ _ (sym (c .before .before .before .before .before .before .before .check-for-duplicates .ensures) ∙ c .before .before .before .before .before .more .given .1) (sym (c .before .holds .ensures) ∙ not-true _ (c .if1 .taken))
+returns c = valued-untaken _ _ _ _ _ _ _ _ _ (sym (checked-apart _ _ (c .before .before .before .before .before .before .before .check-for-duplicates .ensures)) ∙ c .before .before .before .before .before .more .given .1) (sym (c .before .holds .ensures) ∙ not-true _ (c .if1 .taken))
 
 record-key-requires : tie.Need-record-key-requires
-record-key-requires c κs = fresh-place _ _ _ _ _ _ _ _ (sym (c .before .before .before .before .before .before .before .before .before .check-for-duplicates .ensures) ∙ c .before .before .before .before .before .before .before .more .given .1) (sym (c .before .before .before .holds .ensures) ∙ not-false _ (c .before .before .if1 .left))
+record-key-requires c κs = fresh-place _ _ _ _ _ _ _ _ (sym (checked-apart _ _ (c .before .before .before .before .before .before .before .before .before .check-for-duplicates .ensures)) ∙ c .before .before .before .before .before .before .before .more .given .1) (sym (c .before .before .before .holds .ensures) ∙ not-false _ (c .before .before .if1 .left))
 
 read-value-requires : tie.Need-read-value-requires
 read-value-requires c κs = search needs
@@ -51,7 +52,7 @@ same-length-4 : tie.Need-same-length-4
 same-length-4 c = search needs
 
 returns-2 : tie.Need-returns-2
-returns-2 c = took _ _ _ (valued-fresh _ _ _ _ _ _ _ _ _ _ _ (c .before .before .before .before .before .before .before .before .before .before .before .before .before .before .before .check-for-duplicates .ensures) (written-fresh _ _ _ _ _ _ (c .before .before .before .before .before .before .before .before .before .before .before .before .before .more .given .1) (c .before .before .before .before .before .record-key .ensures .0)) (written-fresh _ _ _ _ _ _ (c .before .before .before .before .before .before .before .before .before .before .before .before .before .more .given .1) (c .before .before .before .before .before .record-key .ensures .1)) _ (c .before .before .before .before .before .before .before .before .before .before .before .before .before .more .given .1) _ (c .read-value .ensures)) (sym (c .before .before .before .before .before .before .before .before .before .holds .ensures) ∙ not-false _ (c .before .before .before .before .before .before .before .before .if1 .left))
+returns-2 c = took _ _ _ (valued-fresh _ _ _ _ _ _ _ _ _ _ _ (checked-apart _ _ (c .before .before .before .before .before .before .before .before .before .before .before .before .before .before .before .check-for-duplicates .ensures)) (written-fresh _ _ _ _ _ _ (c .before .before .before .before .before .before .before .before .before .before .before .before .before .more .given .1) (c .before .before .before .before .before .record-key .ensures .0)) (written-fresh _ _ _ _ _ _ (c .before .before .before .before .before .before .before .before .before .before .before .before .before .more .given .1) (c .before .before .before .before .before .record-key .ensures .1)) _ (c .before .before .before .before .before .before .before .before .before .before .before .before .before .more .given .1) _ (c .read-value .ensures)) (sym (c .before .before .before .before .before .before .before .before .before .holds .ensures) ∙ not-false _ (c .before .before .before .before .before .before .before .before .if1 .left))
 
 same-length-5 : tie.Need-same-length-5
 same-length-5 c = search needs
@@ -60,7 +61,7 @@ same-length-6 : tie.Need-same-length-6
 same-length-6 c = search needs
 
 returns-3 : tie.Need-returns-3
-returns-3 c = took-same _ _ (c .before .before .before .before .before .before .before .before .before .pre .0) _ _ (valued-same _ _ _ _ _ _ _ _ _ _ _ (c .before .before .before .check-for-duplicates .ensures) (written-same _ _ _ _ _ _ (c .before .earlier .given .1)) (written-same _ _ _ _ _ _ (c .before .earlier .given .1)) _ (c .before .earlier .given .1)) refl
+returns-3 c = took-same _ _ (c .before .before .before .before .before .before .before .before .before .pre .0) _ _ (valued-same _ _ _ _ _ _ _ _ _ _ _ (checked-apart _ _ (c .before .before .before .check-for-duplicates .ensures)) (written-same _ _ _ _ _ _ (c .before .earlier .given .1)) (written-same _ _ _ _ _ _ (c .before .earlier .given .1)) _ (c .before .earlier .given .1)) refl
 
 same-length-7 : tie.Need-same-length-7
 same-length-7 c = search needs
@@ -69,7 +70,7 @@ same-length-8 : tie.Need-same-length-8
 same-length-8 c = search needs
 
 returns-4 : tie.Need-returns-4
-returns-4 c = took-same _ _ (c .before .before .before .before .before .before .before .before .pre .0) _ _ (valued-full _ _ _ _ _ _ _ _ _ _ _ (c .before .before .check-for-duplicates .ensures) (written-full _ _ _ _ _ (c .enum-told .given .1)) (written-full _ _ _ _ _ (c .enum-told .given .1)) (c .enum-told .given .1)) refl
+returns-4 c = took-same _ _ (c .before .before .before .before .before .before .before .before .pre .0) _ _ (valued-full _ _ _ _ _ _ _ _ _ _ _ (checked-apart _ _ (c .before .before .check-for-duplicates .ensures)) (written-full _ _ _ _ _ (c .enum-told .given .1)) (written-full _ _ _ _ _ (c .enum-told .given .1)) (c .enum-told .given .1)) refl
 
 pub key-valued-spec : {M : Type 1} → statement M
 key-valued-spec =

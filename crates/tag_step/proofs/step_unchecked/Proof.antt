@@ -1,22 +1,32 @@
--- `tag_step::step_unchecked` meets its contract: with checks off a step is the same on any tables, so none are given to it.
+-- `tag_step::step_unchecked` meets its contract: with checks off a step is the same on any tables, so none are given to it, and it
+-- lacks no place.
 use borrow.Author.Needs.{needs}
-use Rattle.tag_step.proofs.Unchecked.{unchecked-steps}
+use Rattle.tag_step.proofs.Unchecked.{unchecked-asks, unchecked-made, unchecked-never}
 use Rattle.tag_step.proofs.step_unchecked.Statement.{statement}
 use Rattle.tag_step.proofs.step_unchecked.Tie as tie
 
-slice-aggregate-step-lent : tie.Need-slice-aggregate-step-lent
-slice-aggregate-step-lent c = search needs
+slice-aggregate-step-in : tie.Need-slice-aggregate-step-in
+slice-aggregate-step-in c = search needs
 
-slice-aggregate-step-lent-2 : tie.Need-slice-aggregate-step-lent-2
-slice-aggregate-step-lent-2 c = search needs
+slice-aggregate-step-in-2 : tie.Need-slice-aggregate-step-in-2
+slice-aggregate-step-in-2 c = search needs
 
-step-lent-requires : tie.Need-step-lent-requires
-step-lent-requires c κs = search needs
+step-in-requires : tie.Need-step-in-requires
+step-in-requires c κs = unchecked-asks _ (c .before .before .before .args .html) _ (c .before .before .before .pre) _ _
+
+enum-known-step : tie.Need-enum-known-step
+enum-known-step c = search needs
+
+enum-told : tie.Need-enum-told
+enum-told c = search needs
 
 returns : tie.Need-returns
-returns c = unchecked-steps _ _ _ (c .before .before .before .before .before .before .pre) _ _ (c .before .before .step-lent .ensures)
+returns c = unchecked-made _ _ _ (c .before .before .before .before .before .before .before .before .before .pre) _ _ _ _ _ (c .before .before .before .before .before .step-in .ensures) _ (c .before .step .given .1)
+
+returns-2 : tie.Need-returns-2
+returns-2 c = absurd (unchecked-never _ _ _ (c .before .before .before .before .before .before .before .before .pre) _ _ _ _ _ (c .before .before .before .before .step-in .ensures) (c .enum-told .given .1))
 
 pub step-unchecked-spec : {M : Type 1} → statement M
 step-unchecked-spec =
     tie.close
-    (tie.spec slice-aggregate-step-lent slice-aggregate-step-lent-2 step-lent-requires returns)
+    (tie.spec slice-aggregate-step-in slice-aggregate-step-in-2 step-in-requires enum-known-step enum-told returns returns-2)

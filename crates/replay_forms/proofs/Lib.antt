@@ -1,0 +1,4 @@
+pub mod Handed
+pub mod Own
+pub mod Parts
+pub mod Checked
