@@ -20,7 +20,7 @@ use Rattle.tag_keys.specs.declared.Earlier.{Earlier}
 use Rattle.tag_keys.specs.declared.Earlier.the-variants.{At, Nothing}
 use Rattle.tag_keys.specs.declared.Checked.{Checked}
 use Rattle.tag_keys.specs.declared.Checked.the-variants.{Fresh, Same, Full}
-use Rattle.tag_keys.specs.Keys.{capacity, keyGood, keyBad, holds, countGood, tableGood, KeysIn, EndsIn, KeyRoom, HasPlace, nameAt, lastIs, sameKey, oldestOf, earlierOf, checkedBy, checkedOf, writtenBy, countBy}
+use Rattle.tag_keys.specs.Keys.{capacity, keyGood, keyBad, holds, countGood, tableGood, KeysIn, EndsIn, KeyRoom, hasPlace, nameAt, lastIs, sameKey, oldestOf, earlierOf, checkedBy, checkedOf, writtenBy, countBy}
 
 -- Two parts of a tag
 
@@ -374,15 +374,34 @@ pub keys-after : (tag : List ℕ) (checks : Bool) (starts ends : List ℕ) (coun
 keys-after tag checks starts ends count from to len i r lt le =
     keys-held tag starts ends count from to len i checks lt le (room-holds tag starts ends count from to len i checks r)
 
--- A new key has its place where the lists hold as many keys as there are with it.
-pub fresh-place : (tag : List ℕ) (checks : Bool) (starts ends : List ℕ) (count from to n : ℕ) → checkedOf tag checks starts ends count from to ≡ Fresh n → holds starts ends n ≡ true → HasPlace checks starts ends count
-unfolding checkedOf checkedBy
-fresh-place tag false starts ends count from to n = λ e h. record { place = λ on. absurd (false≢true on) }
-fresh-place tag true starts ends count from to n = by (earlierOf tag starts ends count from to) (ltb count capacity) refl where
-  by : (x : Earlier) (t : Bool) → ltb count capacity ≡ t → checkedBy count x ≡ Fresh n → holds starts ends n ≡ true → HasPlace true starts ends count
-  by (At p) t h = λ e f. absurd (let z : _≡_ {A = ℕ} 0 1 = cc in omega arith)
-  by Nothing true h = rw h (λ e f.
+-- when lists have the place of the next key: while checks are off, and where neither is full
+module _ (checks : Bool) (starts ends : List ℕ) (count : ℕ) where
+  pub place-unwanted : checks ≡ false → true ≡ hasPlace checks starts ends count
+  unfolding hasPlace
+  place-unwanted off = rw off
+
+  pub place-there : checks ≡ true → count < length starts → count < length ends → true ≡ hasPlace checks starts ends count
+  unfolding hasPlace
+  place-there on a b = rw (on, facts-hold starts ends (count + 1) (omega arith) (omega arith))
+
+  pub starts-full : checks ≡ true → length starts ≤ count → false ≡ hasPlace checks starts ends count
+  unfolding hasPlace
+  starts-full on a = rw (on, lt-leb (count + 1) (length starts) (omega arith))
+
+  pub ends-full : checks ≡ true → count < length starts → length ends ≤ count → false ≡ hasPlace checks starts ends count
+  unfolding hasPlace
+  ends-full on a b = rw (on, le-leb (count + 1) (length starts) (omega arith), lt-leb (count + 1) (length ends) (omega arith))
+
+-- A new key has its place exactly if the lists hold as many keys as there are with it.
+pub fresh-holds : (tag : List ℕ) (checks : Bool) (starts ends : List ℕ) (count from to len n : ℕ) → KeysIn starts ends count len → checkedOf tag checks starts ends count from to ≡ Fresh n → holds starts ends n ≡ hasPlace checks starts ends count
+unfolding checkedOf checkedBy hasPlace
+fresh-holds tag false starts ends count from to len n i = λ e.
+    let m : count ≡ n = cc in
+    rw (sym m) (facts-hold starts ends count (i .placed .0) (i .placed .1))
+fresh-holds tag true starts ends count from to len n i = by (earlierOf tag starts ends count from to) (ltb count capacity) refl where
+  by : (x : Earlier) (t : Bool) → ltb count capacity ≡ t → checkedBy count x ≡ Fresh n → holds starts ends n ≡ holds starts ends (count + 1)
+  by (At p) t h = λ e. absurd (let z : _≡_ {A = ℕ} 0 1 = cc in omega arith)
+  by Nothing true h = rw h (λ e.
       let m : count + 1 ≡ n = cc in
-      let places = holds-facts starts ends n f in
-      record { place = λ _. (omega arith, omega arith) })
-  by Nothing false h = rw h (λ e f. absurd (let z : _≡_ {A = ℕ} 0 1 = cc in omega arith))
+      rw (sym m) refl)
+  by Nothing false h = rw h (λ e. absurd (let z : _≡_ {A = ℕ} 0 1 = cc in omega arith))

@@ -54,9 +54,9 @@ pub record EndsIn (ends : List ℕ) (count len : ℕ) : Type 0 where
 pub record KeyRoom (checks : Bool) (starts ends : List ℕ) : Type 0 where
   pub room : checks ≡ true → (capacity ≤ length starts) × (capacity ≤ length ends)
 
--- While checks are on each list has the place of the next key.
-pub record HasPlace (checks : Bool) (starts ends : List ℕ) (count : ℕ) : Type 0 where
-  pub place : checks ≡ true → (count < length starts) × (count < length ends)
+-- Whether lists have the place of the next key. While checks are off none is wanted.
+unfoldable pub hasPlace : Bool → (starts ends : List ℕ) → ℕ → Bool
+hasPlace checks starts ends count = pick checks (holds starts ends (count + 1)) true
 
 -- the name at index k: the bytes of that recorded key
 unfoldable pub nameAt : List ℕ → List ℕ → List ℕ → ℕ → List ℕ

@@ -6,8 +6,8 @@
 ghost use mathlib.Core.Path.{_≡_};
 ghost use Prim.Native.Nat.{_+_, _≤_, _<_};
 ghost use lib.ListN.{length};
-ghost use Rattle.scan.specs.First.{firstTo};
-ghost use Rattle.tag_keys.specs.Keys.{KeysIn, EndsIn, HasPlace, holds, tableGood, lastIs, earlierOf, checkedOf, checkedNumbers, recordedIn};
+ghost use Rattle.scan.specs.First.{firstTo, pick};
+ghost use Rattle.tag_keys.specs.Keys.{KeysIn, EndsIn, holds, hasPlace, tableGood, lastIs, earlierOf, checkedOf, checkedNumbers, recordedIn};
 
 // How many keys can be recorded: `capacity` of specs/Keys.antt.
 pub const CAPACITY: usize = 256;
@@ -173,7 +173,8 @@ pub fn check_for_duplicates<'a>(
     }
 }
 
-// Records a key that is new, at the first unused place; while checks are off none is recorded.
+// Records a key that is new, at the first unused place, where the tables have that place; whether they have. While checks are
+// off no key is recorded, and none wants a place.
 pub fn record_key<'a>(
     starts: &'a mut [usize],
     ends: &'a mut [usize],
@@ -181,12 +182,22 @@ pub fn record_key<'a>(
     count: usize,
     from: usize,
     to: usize,
-)
-    requires { ⌜ HasPlace checks (now starts) (now ends) count ⌝ }
-    ensures { λ _. ⌜ (now (starts .exit) ≡ recordedIn checks (now (starts .entry)) count from) × (now (ends .exit) ≡ recordedIn checks (now (ends .entry)) count to) ⌝ }
+) -> bool
+    ensures { λ r.
+        ⌜ (r ≡ hasPlace checks (now (starts .entry)) (now (ends .entry)) count)
+        × (now (starts .exit) ≡ pick r (recordedIn checks (now (starts .entry)) count from) (now (starts .entry)))
+        × (now (ends .exit) ≡ pick r (recordedIn checks (now (ends .entry)) count to) (now (ends .entry))) ⌝ }
 {
-    if checks {
-        starts[count] = from;
-        ends[count] = to;
+    if !checks {
+        return true;
     }
+    if count >= starts.len() {
+        return false;
+    }
+    if count >= ends.len() {
+        return false;
+    }
+    starts[count] = from;
+    ends[count] = to;
+    true
 }

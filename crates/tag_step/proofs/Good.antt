@@ -1,7 +1,7 @@
 -- Good states stay good: on tables of full size every step of a good state is taken, and `next` leaves a good state and tables
 -- as long as they were, whatever it began with.
 use Prim.Native.Nat.{ℕ}
-use mathlib.Core.Path.{_≡_, refl, sym, _∙_}
+use mathlib.Core.Path.{_≡_, refl, sym, ap, _∙_}
 use mathlib.Core.Bool.{Bool, true, false}
 use mathlib.Core.List.{List}
 use native.Mathlib.Omega.{arith}
@@ -12,16 +12,17 @@ use Rattle.tag_keys.specs.Keys.{capacity, KeyRoom}
 use Rattle.tag_keys.proofs.Laws.{in-table, keys-none}
 use Rattle.tag_step.specs.declared.Place.{Place}
 use Rattle.tag_step.specs.declared.Place.the-variants.{Done}
+use Rattle.tag_step.specs.declared.Answer.the-variants.{BadState}
 use Rattle.tag_step.specs.declared.Start.{Start}
 use Rattle.tag_step.specs.declared.Start.the-variants.{From, Ended}
 use Rattle.tag_step.specs.declared.Advance.{Advance}
 use Rattle.tag_step.specs.declared.Stepped.{Stepped}
 use Rattle.tag_step.specs.declared.Stepped.the-variants.{Made, LendMore}
 use Rattle.tag_step.specs.declared.IterState.{IterState}
-use Rattle.tag_step.specs.Read.{recoverOf}
-use Rattle.tag_step.specs.Next.{Keys, Reading, Stands, keysLent, advanced, stepFrom, stepOf, placeGood, goodOf, keysOf, lentState, stateGood, noKeys, badReading, leaves, nextOf, opened, withChecks}
+use Rattle.tag_step.specs.Read.{found, recoverOf}
+use Rattle.tag_step.specs.Next.{Keys, Reading, Stands, keysLent, advanced, stepFrom, stepOf, placeGood, goodOf, keysOf, lentState, stateGood, noKeys, reading, badReading, leaves, nextOf, opened, withChecks}
 use Rattle.tag_step.specs.Lent.{taken, stepIn}
-use Rattle.tag_step.proofs.Whole.{starts-in, good-stands, next-steps}
+use Rattle.tag_step.proofs.Whole.{starts-in, good-stands, next-steps, next-bad}
 use Rattle.tag_step.proofs.Taken.{Held, step-keeps-held, step-held, room-made, room-never}
 use Rattle.tag_step.proofs.Progress.{after-good, read-forward}
 
@@ -72,6 +73,14 @@ module _ (s : List ℕ) (st : IterState) (sized : Sized st) (good : stateGood s 
     pub sized-never : r ≡ LendMore → ⊥
     unfolding keysOf
     sized-never m = room-never s (st .«check_duplicates») (keysOf st) (sized-stands .inside) (sized-room st sized) (st .html) (st .place) r starts ends e m
+
+-- Refusal 7 leaves such tables all zero.
+pub sized-cleared : (s : List ℕ) (st : IterState) → Sized st → stateGood s st ≡ false → (starts ends : List ℕ) → starts ≡ replicate (length (st .starts)) 0 → ends ≡ replicate (length (st .ends)) 0 → leaves st (reading (found BadState Done) (keysLent starts ends 0)) ≡ nextOf s st
+unfolding badReading noKeys
+sized-cleared s st z bad starts ends a b =
+    ap (λ (t : List ℕ). leaves st (reading (found BadState Done) (keysLent t ends 0))) (a ∙ ap (λ (n : ℕ). replicate n 0) (z .starts))
+    ∙ ap (λ (t : List ℕ). leaves st (reading (found BadState Done) (keysLent (replicate capacity 0) t 0))) (b ∙ ap (λ (n : ℕ). replicate n 0) (z .ends))
+    ∙ next-bad s st bad
 
 -- A state that stands is good.
 stands-good : (s : List ℕ) (keys : Keys) (place : Place) → Stands s keys place → goodOf s keys place ≡ true

@@ -60,6 +60,17 @@ module _ (s : List ℕ) (html checks : Bool) (starts ends : List ℕ) (count : �
   unfolding bareOf bareTo keptBy countBy checkOf
   bare-untaken on = untaken (keysLent starts ends count) (bareOf s html checks (keysLent starts ends count) key at) (rw (on, fresh, short))
 
+-- what recording a key leaves, by what it says
+module _ (a t u : List ℕ) (r : Bool) (e : u ≡ pick r a t) where
+  pub left-recorded : r ≡ true → u ≡ a
+  left-recorded h = e ∙ rw h
+
+  pub left-alone : r ≡ false → u ≡ t
+  left-alone h = e ∙ rw h
+
+pub short-alone : (starts ends starts' ends' : List ℕ) (count : ℕ) → starts' ≡ starts → ends' ≡ ends → Short (keysLent starts' ends' count) ≡ Short (keysLent starts ends count)
+short-alone starts ends starts' ends' count s e = rw (s, e)
+
 -- A step that is taken keeps the keys inside the tag, and the tables as long as they were.
 pub record Held (s : List ℕ) (before after : Keys) : Type 0 where
   pub inside : KeysIn (after .starts) (after .ends) (after .count) (length s)

@@ -13,9 +13,9 @@ ghost use Prim.Native.Nat.{_+_, _^_, _<_, _≤_};
 ghost use lib.ListN.{length, replicate};
 ghost use Rattle.tag_step.specs.Numbers.{numberedStep};
 ghost use Rattle.tag_step.specs.Read.{isQuote, skipOf, skipEqValueOf, recoverOf, keyAt, closedOf, quotedOf, valueAt};
-ghost use Rattle.tag_step.specs.Next.{Stands, keysLent, placeAt, placeGood, goodOf, nextOf, uncheckedOf, opened, withChecks};
+ghost use Rattle.tag_step.specs.Next.{Stands, keysLent, lentState, advanced, leaves, placeAt, placeGood, goodOf, nextOf, uncheckedOf, opened, withChecks};
 ghost use Rattle.tag_step.specs.Lent.{taken, bareIn, valuedIn, stepIn};
-ghost use Rattle.tag_keys.specs.Keys.{KeysIn};
+ghost use Rattle.tag_keys.specs.Keys.{capacity, KeysIn};
 use tag_keys::CAPACITY;
 use tag_keys::Checked;
 
@@ -370,10 +370,9 @@ fn key_only<'a>(
     }
     match tag_keys::check_for_duplicates(tag, starts, ends, checks, count, key.start, key.end) {
         Checked::Fresh(more) => {
-            if !tag_keys::holds(starts, ends, more) {
+            if !tag_keys::record_key(starts, ends, checks, count, key.start, key.end) {
                 return Stepped::LendMore;
             }
-            tag_keys::record_key(starts, ends, checks, count, key.start, key.end);
             Stepped::Made(Advance {
                 answer: Answer::Empty(key),
                 place: place,
@@ -411,10 +410,9 @@ fn key_valued<'a>(
 {
     match tag_keys::check_for_duplicates(tag, starts, ends, checks, count, key.start, key.end) {
         Checked::Fresh(more) => {
-            if !tag_keys::holds(starts, ends, more) {
+            if !tag_keys::record_key(starts, ends, checks, count, key.start, key.end) {
                 return Stepped::LendMore;
             }
-            tag_keys::record_key(starts, ends, checks, count, key.start, key.end);
             let value = read_value(tag, html, key, eq);
             let answer = value.answer;
             let place = value.place;
@@ -506,6 +504,41 @@ pub fn clear(table: &mut [usize])
     }
 }
 
+// One answer on tables of full size, for any state whatever: 7 first, which clears them; then a step.
+fn next_in<'a>(
+    tag: &[u8],
+    starts: &'a mut [usize],
+    ends: &'a mut [usize],
+    html: bool,
+    checks: bool,
+    count: usize,
+    place: Place,
+) -> Advance
+    requires { ⌜ (length (now starts) ≡ capacity) × (length (now ends) ≡ capacity) ⌝ }
+    ensures { λ r.
+        ⌜ leaves (lentState place html checks (now (starts .entry)) (now (ends .entry)) count) (advanced r (now (starts .exit)) (now (ends .exit)))
+        ≡ nextOf (now (tag .entry)) (lentState place html checks (now (starts .entry)) (now (ends .entry)) count) ⌝ }
+{
+    if !good_in(tag, starts, ends, count, place) {
+        clear(starts);
+        clear(ends);
+        return Advance {
+            answer: Answer::BadState,
+            place: Place::Done,
+            count: 0,
+        };
+    }
+    match step_in(tag, starts, ends, html, checks, count, place) {
+        Stepped::Made(made) => made,
+        // Never: tables of full size have a place for every key that is due to be recorded.
+        Stepped::LendMore => Advance {
+            answer: Answer::End,
+            place: place,
+            count: count,
+        },
+    }
+}
+
 impl IterState {
     // An iterator that is opened at `offset`, with checks on.
     pub fn new(offset: usize, html: bool) -> Self
@@ -539,27 +572,7 @@ impl IterState {
         let mut ends = self.ends;
         let count = self.count;
         let place = self.place;
-        if !good_in(tag, &starts, &ends, count, place) {
-            return Step {
-                answer: Answer::BadState,
-                state: IterState {
-                    place: Place::Done,
-                    html: html,
-                    check_duplicates: checks,
-                    starts: [0; CAPACITY],
-                    ends: [0; CAPACITY],
-                    count: 0,
-                },
-            };
-        }
-        let step = step_in(tag, &mut starts, &mut ends, html, checks, count, place);
-        // Tables of full size have a place for every key that is due to be recorded: the other case never comes.
-        let Stepped::Made(made) = step else {
-            return Step {
-                answer: Answer::End,
-                state: self,
-            };
-        };
+        let made = next_in(tag, &mut starts, &mut ends, html, checks, count, place);
         let answer = made.answer;
         let left = made.place;
         Step {

@@ -2,18 +2,17 @@
 use mathlib.Core.Path.{refl, sym, _∙_}
 use borrow.Author.Tests.{not-true, not-false}
 use Rattle.tag_keys.proofs.Numbers.{checked-apart}
-use Rattle.tag_keys.proofs.Laws.{fresh-place}
+use Rattle.tag_keys.proofs.Laws.{fresh-holds}
 use Rattle.tag_step.proofs.Whole.{bare-xml, bare-fresh, bare-same, bare-full}
-use Rattle.tag_step.proofs.Taken.{written-fresh, written-same, written-full, took, took-same, bare-untaken}
+use Rattle.tag_step.proofs.Taken.{written-fresh, written-same, written-full, took, took-same, left-recorded, left-alone, short-alone, bare-untaken}
 use borrow.Author.Needs.{needs}
 use Rattle.tag_step.proofs.key_only.Statement.{statement}
 use Rattle.tag_step.proofs.key_only.Tie as tie
 use Rattle.tag_step.proofs.key_only.Reads as reads
 use Rattle.tag_step.proofs.key_only.Lts as lts
-use Rattle.tag_step.proofs.place_at.Reads as place-at-reads
 use Rattle.tag_keys.proofs.check_for_duplicates.Reads as check-for-duplicates-reads
-use Rattle.tag_keys.proofs.holds.Reads as holds-reads
 use Rattle.tag_keys.proofs.record_key.Reads as record-key-reads
+use Rattle.tag_step.proofs.place_at.Reads as place-at-reads
 
 place-at-requires : tie.Need-place-at-requires
 place-at-requires c κs = search needs
@@ -27,8 +26,8 @@ check-for-duplicates-requires c κs = search needs
 enum-known-more : tie.Need-enum-known-more
 enum-known-more c = search needs
 
-holds-requires : tie.Need-holds-requires
-holds-requires c κs = search needs
+record-key-requires : tie.Need-record-key-requires
+record-key-requires c κs = search needs
 
 same-length : tie.Need-same-length
 same-length c = search needs
@@ -37,10 +36,7 @@ same-length-2 : tie.Need-same-length-2
 same-length-2 c = search needs
 
 returns-2 : tie.Need-returns-2
-returns-2 c = bare-untaken _ _ _ _ _ _ _ _ _ (sym (checked-apart _ _ (c .before .before .before .before .before .before .before .check-for-duplicates .ensures)) ∙ c .before .before .before .before .before .more .given .1) (sym (c .before .holds .ensures) ∙ not-true _ (c .if2 .taken)) (not-false _ (c .before .before .before .before .before .before .before .before .before .before .if1 .left))
-
-record-key-requires : tie.Need-record-key-requires
-record-key-requires c κs = fresh-place _ _ _ _ _ _ _ _ (sym (checked-apart _ _ (c .before .before .before .before .before .before .before .before .before .check-for-duplicates .ensures)) ∙ c .before .before .before .before .before .before .before .more .given .1) (sym (c .before .before .before .holds .ensures) ∙ not-false _ (c .before .before .if2 .left))
+returns-2 c = short-alone _ _ _ _ _ (left-alone _ _ _ (c .before .before .before .before .before .record-key .result) (c .before .before .before .before .before .record-key .ensures .1) (not-true _ (c .if2 .taken))) (left-alone _ _ _ (c .before .before .before .before .before .record-key .result) (c .before .before .before .before .before .record-key .ensures .2) (not-true _ (c .if2 .taken))) ∙ bare-untaken _ _ _ _ _ _ _ _ _ (sym (checked-apart _ _ (c .before .before .before .before .before .before .before .before .before .before .before .check-for-duplicates .ensures)) ∙ c .before .before .before .before .before .before .before .before .before .more .given .1) (fresh-holds _ _ _ _ _ _ _ _ _ (c .before .before .before .before .before .before .before .before .before .before .before .before .before .before .before .before .before .before .before .pre .0) (sym (checked-apart _ _ (c .before .before .before .before .before .before .before .before .before .before .before .check-for-duplicates .ensures)) ∙ c .before .before .before .before .before .before .before .before .before .more .given .1) ∙ sym (c .before .before .before .before .before .record-key .ensures .0) ∙ not-true _ (c .if2 .taken)) (not-false _ (c .before .before .before .before .before .before .before .before .before .before .before .before .before .before .if1 .left))
 
 enum-known-earlier : tie.Need-enum-known-earlier
 enum-known-earlier c = search needs
@@ -55,7 +51,7 @@ same-length-4 : tie.Need-same-length-4
 same-length-4 c = search needs
 
 returns-3 : tie.Need-returns-3
-returns-3 c = took _ _ _ (bare-fresh _ _ _ _ _ _ _ _ _ _ _ (checked-apart _ _ (c .before .before .before .before .before .before .before .before .before .before .before .before .before .before .check-for-duplicates .ensures)) (written-fresh _ _ _ _ _ _ (c .before .before .before .before .before .before .before .before .before .before .before .before .more .given .1) (c .before .before .before .before .record-key .ensures .0)) (written-fresh _ _ _ _ _ _ (c .before .before .before .before .before .before .before .before .before .before .before .before .more .given .1) (c .before .before .before .before .record-key .ensures .1)) (not-false _ (c .before .before .before .before .before .before .before .before .before .before .before .before .before .before .before .before .before .if1 .left)) _ (c .before .before .before .before .before .before .before .before .before .before .before .before .before .before .before .before .before .before .place-at .ensures) _ (c .before .before .before .before .before .before .before .before .before .before .before .before .more .given .1)) (sym (c .before .before .before .before .before .before .before .before .holds .ensures) ∙ not-false _ (c .before .before .before .before .before .before .before .if2 .left))
+returns-3 c = took _ _ _ (bare-fresh _ _ _ _ _ _ _ _ _ _ _ (checked-apart _ _ (c .before .before .before .before .before .before .before .before .before .before .before .check-for-duplicates .ensures)) (written-fresh _ _ _ _ _ _ (c .before .before .before .before .before .before .before .before .before .more .given .1) (left-recorded _ _ _ (c .before .before .before .before .before .record-key .result) (c .before .before .before .before .before .record-key .ensures .1) (not-false _ (c .if2 .left)))) (written-fresh _ _ _ _ _ _ (c .before .before .before .before .before .before .before .before .before .more .given .1) (left-recorded _ _ _ (c .before .before .before .before .before .record-key .result) (c .before .before .before .before .before .record-key .ensures .2) (not-false _ (c .if2 .left)))) (not-false _ (c .before .before .before .before .before .before .before .before .before .before .before .before .before .before .if1 .left)) _ (c .before .before .before .before .before .before .before .before .before .before .before .before .before .before .before .place-at .ensures) _ (c .before .before .before .before .before .before .before .before .before .more .given .1)) (fresh-holds _ _ _ _ _ _ _ _ _ (c .before .before .before .before .before .before .before .before .before .before .before .before .before .before .before .before .before .before .before .pre .0) (sym (checked-apart _ _ (c .before .before .before .before .before .before .before .before .before .before .before .check-for-duplicates .ensures)) ∙ c .before .before .before .before .before .before .before .before .before .more .given .1) ∙ sym (c .before .before .before .before .before .record-key .ensures .0) ∙ not-false _ (c .if2 .left))
 
 same-length-5 : tie.Need-same-length-5
 same-length-5 c = search needs
@@ -83,11 +79,10 @@ key-only-spec =
     returns
     check-for-duplicates-requires
     enum-known-more
-    holds-requires
+    record-key-requires
     same-length
     same-length-2
     returns-2
-    record-key-requires
     enum-known-earlier
     enum-told
     same-length-3

@@ -2,18 +2,17 @@
 use mathlib.Core.Path.{refl, sym, _∙_}
 use borrow.Author.Tests.{not-true, not-false}
 use Rattle.tag_keys.proofs.Numbers.{checked-apart}
-use Rattle.tag_keys.proofs.Laws.{fresh-place}
+use Rattle.tag_keys.proofs.Laws.{fresh-holds}
 use Rattle.tag_step.proofs.Whole.{valued-fresh, valued-same, valued-full}
-use Rattle.tag_step.proofs.Taken.{written-fresh, written-same, written-full, took, took-same, valued-untaken}
+use Rattle.tag_step.proofs.Taken.{written-fresh, written-same, written-full, took, took-same, left-recorded, left-alone, short-alone, valued-untaken}
 use borrow.Author.Needs.{needs}
 use Rattle.tag_step.proofs.key_valued.Statement.{statement}
 use Rattle.tag_step.proofs.key_valued.Tie as tie
 use Rattle.tag_step.proofs.key_valued.Reads as reads
 use Rattle.tag_step.proofs.key_valued.Lts as lts
-use Rattle.tag_step.proofs.read_value.Reads as read-value-reads
 use Rattle.tag_keys.proofs.check_for_duplicates.Reads as check-for-duplicates-reads
-use Rattle.tag_keys.proofs.holds.Reads as holds-reads
 use Rattle.tag_keys.proofs.record_key.Reads as record-key-reads
+use Rattle.tag_step.proofs.read_value.Reads as read-value-reads
 
 check-for-duplicates-requires : tie.Need-check-for-duplicates-requires
 check-for-duplicates-requires c κs = search needs
@@ -21,8 +20,8 @@ check-for-duplicates-requires c κs = search needs
 enum-known-more : tie.Need-enum-known-more
 enum-known-more c = search needs
 
-holds-requires : tie.Need-holds-requires
-holds-requires c κs = search needs
+record-key-requires : tie.Need-record-key-requires
+record-key-requires c κs = search needs
 
 same-length : tie.Need-same-length
 same-length c = search needs
@@ -31,10 +30,7 @@ same-length-2 : tie.Need-same-length-2
 same-length-2 c = search needs
 
 returns : tie.Need-returns
-returns c = valued-untaken _ _ _ _ _ _ _ _ _ (sym (checked-apart _ _ (c .before .before .before .before .before .before .before .check-for-duplicates .ensures)) ∙ c .before .before .before .before .before .more .given .1) (sym (c .before .holds .ensures) ∙ not-true _ (c .if1 .taken))
-
-record-key-requires : tie.Need-record-key-requires
-record-key-requires c κs = fresh-place _ _ _ _ _ _ _ _ (sym (checked-apart _ _ (c .before .before .before .before .before .before .before .before .before .check-for-duplicates .ensures)) ∙ c .before .before .before .before .before .before .before .more .given .1) (sym (c .before .before .before .holds .ensures) ∙ not-false _ (c .before .before .if1 .left))
+returns c = short-alone _ _ _ _ _ (left-alone _ _ _ (c .before .before .before .before .before .record-key .result) (c .before .before .before .before .before .record-key .ensures .1) (not-true _ (c .if1 .taken))) (left-alone _ _ _ (c .before .before .before .before .before .record-key .result) (c .before .before .before .before .before .record-key .ensures .2) (not-true _ (c .if1 .taken))) ∙ valued-untaken _ _ _ _ _ _ _ _ _ (sym (checked-apart _ _ (c .before .before .before .before .before .before .before .before .before .before .before .check-for-duplicates .ensures)) ∙ c .before .before .before .before .before .before .before .before .before .more .given .1) (fresh-holds _ _ _ _ _ _ _ _ _ (c .before .before .before .before .before .before .before .before .before .before .before .before .before .before .before .before .before .pre .0) (sym (checked-apart _ _ (c .before .before .before .before .before .before .before .before .before .before .before .check-for-duplicates .ensures)) ∙ c .before .before .before .before .before .before .before .before .before .more .given .1) ∙ sym (c .before .before .before .before .before .record-key .ensures .0) ∙ not-true _ (c .if1 .taken))
 
 read-value-requires : tie.Need-read-value-requires
 read-value-requires c κs = search needs
@@ -52,7 +48,7 @@ same-length-4 : tie.Need-same-length-4
 same-length-4 c = search needs
 
 returns-2 : tie.Need-returns-2
-returns-2 c = took _ _ _ (valued-fresh _ _ _ _ _ _ _ _ _ _ _ (checked-apart _ _ (c .before .before .before .before .before .before .before .before .before .before .before .before .before .before .before .check-for-duplicates .ensures)) (written-fresh _ _ _ _ _ _ (c .before .before .before .before .before .before .before .before .before .before .before .before .before .more .given .1) (c .before .before .before .before .before .record-key .ensures .0)) (written-fresh _ _ _ _ _ _ (c .before .before .before .before .before .before .before .before .before .before .before .before .before .more .given .1) (c .before .before .before .before .before .record-key .ensures .1)) _ (c .before .before .before .before .before .before .before .before .before .before .before .before .before .more .given .1) _ (c .read-value .ensures)) (sym (c .before .before .before .before .before .before .before .before .before .holds .ensures) ∙ not-false _ (c .before .before .before .before .before .before .before .before .if1 .left))
+returns-2 c = took _ _ _ (valued-fresh _ _ _ _ _ _ _ _ _ _ _ (checked-apart _ _ (c .before .before .before .before .before .before .before .before .before .before .before .before .check-for-duplicates .ensures)) (written-fresh _ _ _ _ _ _ (c .before .before .before .before .before .before .before .before .before .before .more .given .1) (left-recorded _ _ _ (c .before .before .before .before .before .before .record-key .result) (c .before .before .before .before .before .before .record-key .ensures .1) (not-false _ (c .before .if1 .left)))) (written-fresh _ _ _ _ _ _ (c .before .before .before .before .before .before .before .before .before .before .more .given .1) (left-recorded _ _ _ (c .before .before .before .before .before .before .record-key .result) (c .before .before .before .before .before .before .record-key .ensures .2) (not-false _ (c .before .if1 .left)))) _ (c .before .before .before .before .before .before .before .before .before .before .more .given .1) _ (c .read-value .ensures)) (fresh-holds _ _ _ _ _ _ _ _ _ (c .before .before .before .before .before .before .before .before .before .before .before .before .before .before .before .before .before .before .pre .0) (sym (checked-apart _ _ (c .before .before .before .before .before .before .before .before .before .before .before .before .check-for-duplicates .ensures)) ∙ c .before .before .before .before .before .before .before .before .before .before .more .given .1) ∙ sym (c .before .before .before .before .before .before .record-key .ensures .0) ∙ not-false _ (c .before .if1 .left))
 
 same-length-5 : tie.Need-same-length-5
 same-length-5 c = search needs
@@ -78,11 +74,10 @@ key-valued-spec =
     (tie.spec
     check-for-duplicates-requires
     enum-known-more
-    holds-requires
+    record-key-requires
     same-length
     same-length-2
     returns
-    record-key-requires
     read-value-requires
     enum-known-earlier
     enum-told
