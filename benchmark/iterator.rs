@@ -7,9 +7,11 @@
 //! `IterState` below it. The library's batch is lent the same tables for every tag; they are not
 //! cleared in between.
 //!
+//! Built with `before`, the batch of another library takes its turns among them: `./bench --before`.
+//!
 //! Usage: `iterator [--check] [--markdown]`, or `iterator --plot` for the figures that benchmark/plot
 //! draws. Status 1 where the ways differ in how many answers a tag has or, with `--check`, where a ratio
-//! is below the one that is wanted.
+//! is below the one that is wanted, or a tag takes over 5 % longer than by the other library.
 
 #[path = "../rust/src/library.rs"]
 mod library;
@@ -17,9 +19,51 @@ mod turns;
 
 use library::mz_read_batch;
 use oracle::steps::{count_by_attributes, count_by_state};
+use std::cell::RefCell;
 use std::hint::black_box;
 use std::process::ExitCode;
 use turns::{ROUNDS, fastest, none_missed, shown};
+
+/// The form of `mz_read_batch`.
+type ReadBatch = unsafe extern "C" fn(
+    *const u8,
+    usize,
+    *mut usize,
+    usize,
+    *mut usize,
+    usize,
+    *mut usize,
+    bool,
+    bool,
+    *mut usize,
+    usize,
+) -> usize;
+
+#[cfg(before)]
+unsafe extern "C" {
+    /// `mz_read_batch` of the other library, under the name that `./bench` gives it.
+    fn before_read_batch(
+        tag: *const u8,
+        tag_len: usize,
+        starts: *mut usize,
+        starts_len: usize,
+        ends: *mut usize,
+        ends_len: usize,
+        state: *mut usize,
+        html: bool,
+        checks: bool,
+        out: *mut usize,
+        out_len: usize,
+    ) -> usize;
+}
+
+#[cfg(before)]
+const BEFORE: Option<ReadBatch> = Some(before_read_batch);
+#[cfg(not(before))]
+const BEFORE: Option<ReadBatch> = None;
+
+/// How many times as long as by the other library a tag may take.
+const SLOWER: f64 = 1.05;
 
 const KEYS: usize = 256;
 /// Room for all answers of any tag here, and one more, so that one call reads to the end.
@@ -33,14 +77,15 @@ struct Lent {
 }
 
 impl Lent {
-    fn read(&mut self, tag: &[u8], checks: bool) -> usize {
+    #[inline(always)]
+    fn read(&mut self, batch: ReadBatch, tag: &[u8], checks: bool) -> usize {
         // The place next, at 0, and no recorded key.
         let mut state = [1, 0, 0, 0];
         // SAFETY: each pointer is that of a live array or slice of the stated length, or of the four numbers
         // of a state; the tag is only read, and the four that are written are borrowed mutably and apart
         // from each other.
         let count = unsafe {
-            mz_read_batch(
+            batch(
                 tag.as_ptr(),
                 tag.len(),
                 self.starts.as_mut_ptr(),
@@ -116,6 +161,7 @@ struct Row {
     answers: usize,
     by_crate: f64,
     batch: f64,
+    before: Option<f64>,
     wanted: Option<f64>,
 }
 
@@ -123,6 +169,23 @@ impl Row {
     /// How many times the crate's speed the batch has.
     fn batch_ratio(&self) -> f64 {
         self.by_crate / self.batch
+    }
+
+    /// How many times as long as by the other library the batch takes.
+    fn beside(&self) -> Option<f64> {
+        self.before.map(|before| self.batch / before)
+    }
+
+    /// What is said where that is too long.
+    fn slower(&self) -> Option<String> {
+        let times = self.beside()?;
+        (times > SLOWER).then(|| {
+            let checks = self.checks_shown();
+            format!(
+                "slower: {}, checks {checks}: {times:.2} times as long as before",
+                self.name
+            )
+        })
     }
 
     const fn checks_shown(&self) -> &'static str {
@@ -153,8 +216,18 @@ fn measure(case: &Case, checks: bool) -> Result<Row, String> {
     };
     let mut attributes = || count_by_attributes(black_box(text), false, checks);
     let mut state = || count_by_state(black_box(tag), false, checks);
-    let mut batch = || lent.read(black_box(tag), checks);
-    let counts = [attributes(), state(), batch()];
+    // Both libraries read into the same memory, in turn.
+    let lent = RefCell::new(&mut lent);
+    let mut batch = || {
+        lent.borrow_mut()
+            .read(mz_read_batch, black_box(tag), checks)
+    };
+    let mut before = || match BEFORE {
+        Some(before) => lent.borrow_mut().read(before, black_box(tag), checks),
+        None => 0,
+    };
+    let mut counts = vec![attributes(), state(), batch()];
+    counts.extend(BEFORE.map(|_| before()));
     let answers = counts[0];
     if counts.iter().any(|&count| count != answers) {
         return Err(format!(
@@ -162,24 +235,36 @@ fn measure(case: &Case, checks: bool) -> Result<Row, String> {
             case.name
         ));
     }
-    let [attributes, state, batch] = fastest([&mut attributes, &mut state, &mut batch]);
+    let (attributes, state, batch, before) = if BEFORE.is_some() {
+        let [attributes, state, batch, before] =
+            fastest([&mut attributes, &mut state, &mut batch, &mut before]);
+        (attributes, state, batch, Some(before))
+    } else {
+        let [attributes, state, batch] = fastest([&mut attributes, &mut state, &mut batch]);
+        (attributes, state, batch, None)
+    };
     Ok(Row {
         name: case.name.clone(),
         checks,
         answers,
         by_crate: attributes.min(state),
         batch,
+        before,
         wanted: case.wanted[usize::from(!checks)],
     })
 }
 
 fn print_plain(rows: &[Row]) {
-    println!(
+    print!(
         "{:36} {:6} {:>7} {:>8} {:>8} {:>6}",
         "ns a tag", "checks", "answers", "crate", "batch", "ratio"
     );
+    if BEFORE.is_some() {
+        print!(" {:>8} {:>6}", "before", "beside");
+    }
+    println!();
     for row in rows {
-        println!(
+        print!(
             "{:36} {:6} {:>7} {:>8} {:>8} {:>6.2}",
             row.name,
             row.checks_shown(),
@@ -188,14 +273,22 @@ fn print_plain(rows: &[Row]) {
             shown(row.batch),
             row.batch_ratio()
         );
+        if let (Some(before), Some(beside)) = (row.before, row.beside()) {
+            print!(" {:>8} {beside:>6.2}", shown(before));
+        }
+        println!();
     }
 }
 
 fn print_markdown(rows: &[Row]) {
-    println!("| ns a tag | Checks | Answers | Crate | Batch | Ratio |");
-    println!("|---|---|--:|--:|--:|--:|");
+    let (names, rules) = match BEFORE {
+        Some(_) => (" Before | Beside |", "--:|--:|"),
+        None => ("", ""),
+    };
+    println!("| ns a tag | Checks | Answers | Crate | Batch | Ratio |{names}");
+    println!("|---|---|--:|--:|--:|--:|{rules}");
     for row in rows {
-        println!(
+        print!(
             "| {} | {} | {} | {} | {} | {:.2} |",
             row.name,
             row.checks_shown(),
@@ -204,14 +297,22 @@ fn print_markdown(rows: &[Row]) {
             shown(row.batch),
             row.batch_ratio()
         );
+        if let (Some(before), Some(beside)) = (row.before, row.beside()) {
+            print!(" {} | {beside:.2} |", shown(before));
+        }
+        println!();
     }
 }
 
-/// Says which wanted ratios are missed; whether none is.
+/// Says which wanted ratios are missed, and what is slower than by the other library; whether nothing is.
 fn all_met(rows: &[Row]) -> bool {
     let missed: Vec<String> = rows.iter().filter_map(Row::missed).collect();
     let wanted = rows.iter().filter(|row| row.wanted.is_some()).count();
-    none_missed(wanted, &missed)
+    let slower: Vec<String> = rows.iter().filter_map(Row::slower).collect();
+    for line in &slower {
+        println!("{line}");
+    }
+    none_missed(wanted, &missed) && slower.is_empty()
 }
 
 fn measure_all() -> Result<Vec<Row>, String> {

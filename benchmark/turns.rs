@@ -6,8 +6,8 @@
 use std::hint::black_box;
 use std::time::Instant;
 
-pub const ROUNDS: usize = 400;
-const ROUND_NANOSECONDS: f64 = 200_000.0;
+pub const ROUNDS: usize = 4_000;
+const ROUND_NANOSECONDS: f64 = 40_000.0;
 
 /// A way to do it; what it gives back keeps the compiler from leaving it out.
 pub type Way<'w> = &'w mut dyn FnMut() -> usize;

@@ -32,6 +32,15 @@ and-take {a} {b} {r} p q = rw (p, q)
 pub and-fail : {a : Bool} (b : Bool) → a ≡ false → (a && b) ≡ false
 and-fail {a} b p = rw p
 
+pub and-off : (a : Bool) {b : Bool} → b ≡ false → (a && b) ≡ false
+and-off true p = p
+and-off false p = refl
+
+-- two that are not both so, whatever else is asked
+pub both-off : (a b r : Bool) → (a && b) ≡ false → (a && (b && r)) ≡ false
+both-off true b r p = and-fail r p
+both-off false b r p = refl
+
 -- Every number below n.
 
 pub all-at : (p : ℕ → Bool) (n k : ℕ) → allBelow p n ≡ true → k < n → p k ≡ true

@@ -326,12 +326,28 @@ pub fn fits(bytes: usize, numbers: usize, used: usize, count: usize) -> bool
 }
 
 // Whether a text is zero from `from` on, as far as it is lent. All bytes go into one by `|`, with no early exit, so that LLVM
-// makes a vector loop of it: with much memory lent, this is most of what the test of a resolver costs. That loop begins at an
-// index that is a multiple of 16: where the text itself begins at such an address, which nothing promises of a lent one, no
-// vector lies across two lines of the cache, which would take longer to load.
+// makes a vector loop of it: with much memory lent, this is most of what the test of a resolver costs.
+fn zero_rest(t: &[u8], from: usize) -> bool
+    ensures { λ r. ⌜ r ≡ allZero (drop from (now (t .entry))) ⌝ }
+{
+    let mut bits: u8 = 0;
+    let mut i = from;
+    while i < t.len() {
+        bits = bits | t[i];
+        i += 1;
+    }
+    bits == 0
+}
+
+// The same. In a long text the vector loop begins at an index that is a multiple of 16: where the text itself begins at such an
+// address, which nothing promises of a lent one, no vector lies across two lines of the cache, which would take longer to load.
+// In a short one getting there costs more than it saves.
 fn zero_bytes(t: &[u8], from: usize) -> bool
     ensures { λ r. ⌜ r ≡ allZero (drop from (now (t .entry))) ⌝ }
 {
+    if t.len() < 8192 {
+        return zero_rest(t, from);
+    }
     let mut bits: u8 = 0;
     let mut i = from;
     while i % 16 != 0 {
@@ -341,11 +357,10 @@ fn zero_bytes(t: &[u8], from: usize) -> bool
         bits = bits | t[i];
         i += 1;
     }
-    while i < t.len() {
-        bits = bits | t[i];
-        i += 1;
+    if bits != 0 {
+        return false;
     }
-    bits == 0
+    zero_rest(t, i)
 }
 
 // The same of numbers: a row begins at a multiple of 32 bytes from the first.
@@ -361,53 +376,39 @@ fn zero_numbers(t: &[usize], from: usize) -> bool
     bits == 0
 }
 
-// Whether each record's text starts where the one before it ends, and the last ends at `used`. A record that would end past
-// `used` is found before its lengths are added, so that no sum wraps.
-fn is_chain(records: &[usize], used: usize, count: usize) -> bool
-    requires { ⌜ rowAt count ≤ length (now records) ⌝ }
-    ensures { λ r. ⌜ r ≡ isChain (recordAt (now (records .entry))) used count ⌝ }
+// Whether each record's text starts where the one before it ends, the last ends at `used`, and no level is below the one before it
+// or above `top`. A length beyond `used` is found before it is added, so that no sum wraps. It is one pass with few branches a
+// record, since with many bindings this is most of what the test of a resolver costs; so the last level alone is held against
+// `top`, and both lengths against `used` at once, by their bits.
+fn in_order(records: &[usize], used: usize, count: usize, top: usize) -> bool
+    requires { ⌜ (rowAt count ≤ length (now records)) × (used ≤ TEXT) × (count ≤ RECORDS) ⌝ }
+    ensures { λ r. ⌜ r ≡ (isChain (recordAt (now (records .entry))) used count && isRising (recordAt (now (records .entry))) count top) ⌝ }
 {
     let mut i: usize = 0;
     let mut at: usize = 0;
+    let mut before: usize = 0;
     while i < count {
         let b = record_at(records, i);
         let prefix_len = b.prefix_len;
         let value_len = b.value_len;
+        let here = b.level;
         if b.start != at {
             return false;
         }
-        if used - at < prefix_len {
+        if used < (prefix_len | value_len) {
             return false;
         }
-        if used - at - prefix_len < value_len {
-            return false;
-        }
-        at = at + prefix_len + value_len;
-        i += 1;
-    }
-    at == used
-}
-
-// Whether no level is below the one before it or above `top`.
-fn is_rising(records: &[usize], count: usize, top: usize) -> bool
-    requires { ⌜ rowAt count ≤ length (now records) ⌝ }
-    ensures { λ r. ⌜ r ≡ isRising (recordAt (now (records .entry))) count top ⌝ }
-{
-    let mut i: usize = 0;
-    let mut before: usize = 0;
-    while i < count {
-        let b = record_at(records, i);
-        let here = b.level;
         if here < before {
             return false;
         }
-        if top < here {
-            return false;
-        }
         before = here;
+        at = at + prefix_len + value_len;
         i += 1;
     }
-    true
+    if at != used {
+        return false;
+    }
+    before <= top
 }
 
 // Whether two texts are the same. All bits that differ go into one byte, with no early exit, so that LLVM makes a vector loop
@@ -507,10 +508,7 @@ fn is_table<'a>(text: &'a [u8], records: &'a [usize], head: Head) -> bool
     if !opens_built_in(text, records, count) {
         return false;
     }
-    if !is_chain(records, used, count) {
-        return false;
-    }
-    if !is_rising(records, count, level) {
+    if !in_order(records, used, count, level) {
         return false;
     }
     if !zero_bytes(text, used) {

@@ -314,7 +314,9 @@ impl<T: Kept> IterState<T> {
         Some(answered(answer))
     }
 
-    /// Reads on; whether there is an answer more. A call of its own, so that what takes answers is short.
+    /// Reads on; whether there is an answer more. A call of its own, so that what takes answers is short and goes
+    /// into the caller's loop.
+    #[inline(never)]
     fn read(&mut self, tag: &[u8]) -> bool {
         if self.ended {
             return false;
@@ -469,7 +471,8 @@ impl<'a, T: Kept> Iterator for Attributes<'a, T> {
     ///
     /// As quick-xml's, where reading began inside a character and a key with it; and where the static library is
     /// not one for [this crate](crate#panics).
-    #[inline]
+    // Else rustc makes a call of it in a loop over `new`: a tenth more for a tag of five attributes.
+    #[inline(always)]
     fn next(&mut self) -> Option<Self::Item> {
         let answer = self.state.next(self.buf.as_bytes())?;
         Some(answer.map(|attr| attr.map(|range| &self.buf[range]).into()))

@@ -2,9 +2,11 @@
 use mathlib.Core.Path.{refl, sym, _∙_}
 use native.Mathlib.Omega.{arith}
 use borrow.Author.Tests.{not-true, not-false}
-use Rattle.scope_table.specs.Table.{isTable, isClear}
-use Rattle.scope_table.proofs.Lists.{and-take, and-fail}
+use Rattle.scope_table.specs.Records.{recordAt}
+use Rattle.scope_table.specs.Table.{isChain, isRising, isTable, isClear}
+use Rattle.scope_table.proofs.Lists.{and-take, and-fail, both-off}
 use Rattle.scope_table.proofs.Good.{within, within-rows}
+use Rattle.scan.proofs.Bytes.{both}
 use borrow.Author.Needs.{needs}
 use Rattle.scope_table.proofs.is_table.Statement.{statement}
 use Rattle.scope_table.proofs.is_table.Tie as tie
@@ -25,54 +27,49 @@ returns-2 c =
     let t₁ = sym (c .before .before .before .is-within .ensures) ∙ not-false _ (c .before .before .if1 .left) in
     sym (and-take t₁ (and-fail _ (sym (c .before .opens-built-in .ensures) ∙ not-true _ (c .if2 .taken))))
 
-is-chain-requires : tie.Need-is-chain-requires
-is-chain-requires c κs = within-rows _ _ (c .before .before .before .before .before .before .args .head .used) (c .before .before .before .before .before .before .args .head .count) (c .before .before .before .before .before .before .args .head .level) (c .before .before .before .before .before .before .pre) (sym (c .before .before .before .is-within .ensures) ∙ not-false _ (c .before .before .if1 .left))
+in-order-requires : tie.Need-in-order-requires
+in-order-requires c κs =
+    let h = c .before .before .before .before .before .before .args .head in
+    let w = sym (c .before .before .before .is-within .ensures) ∙ not-false _ (c .before .before .if1 .left) in
+    (within-rows _ _ (h .used) (h .count) (h .level) (c .before .before .before .before .before .before .pre) w, within (h .used) (h .count) (h .level) w .few-bytes, within (h .used) (h .count) (h .level) w .few-records)
 
 returns-3 : tie.Need-returns-3
 unfolding isTable
 returns-3 c =
     let t₁ = sym (c .before .before .before .before .before .is-within .ensures) ∙ not-false _ (c .before .before .before .before .if1 .left) in
     let t₂ = sym (c .before .before .before .opens-built-in .ensures) ∙ not-false _ (c .before .before .if2 .left) in
-    sym (and-take t₁ (and-take t₂ (and-fail _ (sym (c .before .is-chain .ensures) ∙ not-true _ (c .if3 .taken)))))
-
-is-rising-requires : tie.Need-is-rising-requires
-is-rising-requires c κs = within-rows _ _ (c .before .before .before .before .before .before .before .before .args .head .used) (c .before .before .before .before .before .before .before .before .args .head .count) (c .before .before .before .before .before .before .before .before .args .head .level) (c .before .before .before .before .before .before .before .before .pre) (sym (c .before .before .before .before .before .is-within .ensures) ∙ not-false _ (c .before .before .before .before .if1 .left))
-
-returns-4 : tie.Need-returns-4
-unfolding isTable
-returns-4 c =
-    let t₁ = sym (c .before .before .before .before .before .before .before .is-within .ensures) ∙ not-false _ (c .before .before .before .before .before .before .if1 .left) in
-    let t₂ = sym (c .before .before .before .before .before .opens-built-in .ensures) ∙ not-false _ (c .before .before .before .before .if2 .left) in
-    let t₃ = sym (c .before .before .before .is-chain .ensures) ∙ not-false _ (c .before .before .if3 .left) in
-    sym (and-take t₁ (and-take t₂ (and-take t₃ (and-fail _ (sym (c .before .is-rising .ensures) ∙ not-true _ (c .if4 .taken))))))
+    let a = c .before .before .before .before .before .before .before .before .args in
+    sym (and-take t₁ (and-take t₂ (both-off (isChain (recordAt (a .records .now)) (a .head .used) (a .head .count)) (isRising (recordAt (a .records .now)) (a .head .count) (a .head .level)) _ (sym (c .before .in-order .ensures) ∙ not-true _ (c .if3 .taken)))))
 
 zero-bytes-requires : tie.Need-zero-bytes-requires
 zero-bytes-requires c κs = search needs
 
-returns-5 : tie.Need-returns-5
+returns-4 : tie.Need-returns-4
 unfolding isTable isClear
-returns-5 c =
-    let t₁ = sym (c .before .before .before .before .before .before .before .before .before .is-within .ensures) ∙ not-false _ (c .before .before .before .before .before .before .before .before .if1 .left) in
-    let t₂ = sym (c .before .before .before .before .before .before .before .opens-built-in .ensures) ∙ not-false _ (c .before .before .before .before .before .before .if2 .left) in
-    let t₃ = sym (c .before .before .before .before .before .is-chain .ensures) ∙ not-false _ (c .before .before .before .before .if3 .left) in
-    let t₄ = sym (c .before .before .before .is-rising .ensures) ∙ not-false _ (c .before .before .if4 .left) in
-    sym (and-take t₁ (and-take t₂ (and-take t₃ (and-take t₄ (and-fail _ (sym (c .before .zero-bytes .ensures) ∙ not-true _ (c .if5 .taken)))))))
+returns-4 c =
+    let t₁ = sym (c .before .before .before .before .before .before .before .is-within .ensures) ∙ not-false _ (c .before .before .before .before .before .before .if1 .left) in
+    let t₂ = sym (c .before .before .before .before .before .opens-built-in .ensures) ∙ not-false _ (c .before .before .before .before .if2 .left) in
+    let a = c .before .before .before .before .before .before .before .before .before .before .args in
+    let t₃ = both (isChain (recordAt (a .records .now)) (a .head .used) (a .head .count)) (isRising (recordAt (a .records .now)) (a .head .count) (a .head .level)) (sym (c .before .before .before .in-order .ensures) ∙ not-false _ (c .before .before .if3 .left)) in
+    sym (and-take t₁ (and-take t₂ (and-take (t₃ .0) (and-take (t₃ .1) (and-fail _ (sym (c .before .zero-bytes .ensures) ∙ not-true _ (c .if4 .taken)))))))
 
 mul-zero-numbers : tie.Need-mul-zero-numbers
-mul-zero-numbers c = omega (arith, within (c .before .before .before .before .before .before .before .before .before .before .before .before .args .head .used) (c .before .before .before .before .before .before .before .before .before .before .before .before .args .head .count) (c .before .before .before .before .before .before .before .before .before .before .before .before .args .head .level) (sym (c .before .before .before .before .before .before .before .before .before .is-within .ensures) ∙ not-false _ (c .before .before .before .before .before .before .before .before .if1 .left)) .few-records)
+mul-zero-numbers c =
+    let h = c .before .before .before .before .before .before .before .before .before .before .args .head in
+    omega (arith, within (h .used) (h .count) (h .level) (sym (c .before .before .before .before .before .before .before .is-within .ensures) ∙ not-false _ (c .before .before .before .before .before .before .if1 .left)) .few-records)
 
 zero-numbers-requires : tie.Need-zero-numbers-requires
 zero-numbers-requires c κs = search needs
 
-returns-6 : tie.Need-returns-6
+returns-5 : tie.Need-returns-5
 unfolding isTable isClear
-returns-6 c =
-    let t₁ = sym (c .before .before .before .before .before .before .before .before .before .before .is-within .ensures) ∙ not-false _ (c .before .before .before .before .before .before .before .before .before .if1 .left) in
-    let t₂ = sym (c .before .before .before .before .before .before .before .before .opens-built-in .ensures) ∙ not-false _ (c .before .before .before .before .before .before .before .if2 .left) in
-    let t₃ = sym (c .before .before .before .before .before .before .is-chain .ensures) ∙ not-false _ (c .before .before .before .before .before .if3 .left) in
-    let t₄ = sym (c .before .before .before .before .is-rising .ensures) ∙ not-false _ (c .before .before .before .if4 .left) in
-    let t₅ = sym (c .before .before .zero-bytes .ensures) ∙ not-false _ (c .before .if5 .left) in
-    c .zero-numbers .ensures ∙ sym (and-take t₁ (and-take t₂ (and-take t₃ (and-take t₄ (and-take t₅ refl)))))
+returns-5 c =
+    let t₁ = sym (c .before .before .before .before .before .before .before .before .is-within .ensures) ∙ not-false _ (c .before .before .before .before .before .before .before .if1 .left) in
+    let t₂ = sym (c .before .before .before .before .before .before .opens-built-in .ensures) ∙ not-false _ (c .before .before .before .before .before .if2 .left) in
+    let a = c .before .before .before .before .before .before .before .before .before .before .before .args in
+    let t₃ = both (isChain (recordAt (a .records .now)) (a .head .used) (a .head .count)) (isRising (recordAt (a .records .now)) (a .head .count) (a .head .level)) (sym (c .before .before .before .before .in-order .ensures) ∙ not-false _ (c .before .before .before .if3 .left)) in
+    let t₅ = sym (c .before .before .zero-bytes .ensures) ∙ not-false _ (c .before .if4 .left) in
+    c .zero-numbers .ensures ∙ sym (and-take t₁ (and-take t₂ (and-take (t₃ .0) (and-take (t₃ .1) (and-take t₅ refl)))))
 
 pub is-table-spec : {M : Type 1} → statement M
 is-table-spec =
@@ -82,12 +79,10 @@ is-table-spec =
     returns
     opens-built-in-requires
     returns-2
-    is-chain-requires
+    in-order-requires
     returns-3
-    is-rising-requires
-    returns-4
     zero-bytes-requires
-    returns-5
+    returns-4
     mul-zero-numbers
     zero-numbers-requires
-    returns-6)
+    returns-5)

@@ -1,13 +1,15 @@
--- `scope_table::zero_bytes` meets its contract: in both loops all is zero exactly if the bits so far are and the rest is. The measure
--- of each is what is left.
+-- `scope_table::zero_bytes` meets its contract: in the loop all is zero exactly if the bits so far are and the rest is. The measure is
+-- what is left.
 use Prim.Native.Nat.{_-_}
-use mathlib.Core.Path.{_≡_, refl}
+use mathlib.Core.Path.{_≡_, refl, sym, _∙_}
 use mathlib.Core.Bool.{_&&_}
 use native.Mathlib.Omega.{arith}
+use borrow.Author.Needs.{needs}
+use borrow.Author.Tests.{eq-eqb, ne-eqb}
 use lib.Dec.{eqb}
 use lib.ListN.{length, drop}
 use Rattle.scope_table.specs.Lists.{allZero}
-use Rattle.scope_table.proofs.Lists.{zero-next, zero-end}
+use Rattle.scope_table.proofs.Lists.{and-take, and-fail, zero-next, zero-end}
 use Rattle.scope_table.proofs.zero_bytes.Statement.{statement}
 use Rattle.scope_table.proofs.zero_bytes.Tie as tie
 
@@ -17,55 +19,46 @@ Inv-loop t from bits₀ i₀ bits i = allZero (drop from t) ≡ (eqb bits 0 && a
 abbrev μ-loop : tie.MeasureT-loop
 μ-loop t from bits₀ i₀ bits i = length t - i
 
-abbrev Inv-loop2 : tie.InvT-loop2
-Inv-loop2 t from bits₀ i₀ bits i = allZero (drop from t) ≡ (eqb bits 0 && allZero (drop i t))
+zero-rest-requires : tie.Need-zero-rest-requires Inv-loop μ-loop
+zero-rest-requires c κs = search needs
 
-abbrev μ-loop2 : tie.MeasureT-loop2
-μ-loop2 t from bits₀ i₀ bits i = length t - i
+returns : tie.Need-returns Inv-loop μ-loop
+returns c = c .zero-rest .ensures
 
-loop-holds : tie.Need-loop-holds Inv-loop μ-loop Inv-loop2 μ-loop2
+loop-holds : tie.Need-loop-holds Inv-loop μ-loop
 loop-holds c = refl
 
-returns : tie.Need-returns Inv-loop μ-loop Inv-loop2 μ-loop2
-returns c =
+returns-2 : tie.Need-returns-2 Inv-loop μ-loop
+returns-2 c =
     let l = c .before .before .loop in
-    zero-end _ (l .bits) (c .before .before .before .args .t .now) (l .i) (omega arith) (l .inv)
+    zero-end _ (l .bits) (c .before .before .before .before .before .args .t .now) (l .i) (omega arith) (l .inv)
 
-shared-slice-read-bits : tie.Need-shared-slice-read-bits Inv-loop μ-loop Inv-loop2 μ-loop2
+shared-slice-read-bits : tie.Need-shared-slice-read-bits Inv-loop μ-loop
 shared-slice-read-bits c = omega arith
 
-add-i : tie.Need-add-i Inv-loop μ-loop Inv-loop2 μ-loop2
+add-i : tie.Need-add-i Inv-loop μ-loop
 add-i c = omega arith
 
-loop-less : tie.Need-loop-less Inv-loop μ-loop Inv-loop2 μ-loop2
+loop-less : tie.Need-loop-less Inv-loop μ-loop
 loop-less c = omega arith
 
-loop-again : tie.Need-loop-again Inv-loop μ-loop Inv-loop2 μ-loop2
+loop-again : tie.Need-loop-again Inv-loop μ-loop
 loop-again c =
     let l = c .before .before .before .loop in
-    zero-next _ (l .bits) (c .before .before .before .before .args .t .now) (l .i) (omega arith) (l .inv)
+    zero-next _ (l .bits) (c .before .before .before .before .before .before .args .t .now) (l .i) (omega arith) (l .inv)
 
-loop2-holds : tie.Need-loop2-holds Inv-loop μ-loop Inv-loop2 μ-loop2
-loop2-holds c = c .before .loop .inv
+returns-3 : tie.Need-returns-3 Inv-loop μ-loop
+returns-3 c =
+    let l = c .before .before .loop in
+    sym (l .inv ∙ and-fail _ (ne-eqb (l .bits) 0 (c .if3 .taken)))
 
-shared-slice-read-bits-2 : tie.Need-shared-slice-read-bits-2 Inv-loop μ-loop Inv-loop2 μ-loop2
-shared-slice-read-bits-2 c = omega arith
+zero-rest-requires-2 : tie.Need-zero-rest-requires-2 Inv-loop μ-loop
+zero-rest-requires-2 c κs = search needs
 
-add-i-2 : tie.Need-add-i-2 Inv-loop μ-loop Inv-loop2 μ-loop2
-add-i-2 c = omega arith
-
-loop2-less : tie.Need-loop2-less Inv-loop μ-loop Inv-loop2 μ-loop2
-loop2-less c = omega arith
-
-loop2-again : tie.Need-loop2-again Inv-loop μ-loop Inv-loop2 μ-loop2
-loop2-again c =
-    let l = c .before .before .loop2 in
-    zero-next _ (l .bits) (c .before .before .before .before .before .args .t .now) (l .i) (omega arith) (l .inv)
-
-returns-2 : tie.Need-returns-2 Inv-loop μ-loop Inv-loop2 μ-loop2
-returns-2 c =
-    let l = c .before .loop2 in
-    zero-end _ (l .bits) (c .before .before .before .before .args .t .now) (l .i) (omega arith) (l .inv)
+returns-4 : tie.Need-returns-4 Inv-loop μ-loop
+returns-4 c =
+    let l = c .before .before .before .loop in
+    c .zero-rest2 .ensures ∙ sym (l .inv ∙ and-take (eq-eqb (l .bits) 0 (c .before .if3 .left)) refl)
 
 pub zero-bytes-spec : {M : Type 1} → statement M
 zero-bytes-spec =
@@ -73,17 +66,14 @@ zero-bytes-spec =
     (tie.spec
     Inv-loop
     μ-loop
-    Inv-loop2
-    μ-loop2
-    loop-holds
+    zero-rest-requires
     returns
+    loop-holds
+    returns-2
     shared-slice-read-bits
     add-i
     loop-less
     loop-again
-    loop2-holds
-    shared-slice-read-bits-2
-    add-i-2
-    loop2-less
-    loop2-again
-    returns-2)
+    returns-3
+    zero-rest-requires-2
+    returns-4)
