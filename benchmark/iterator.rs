@@ -42,23 +42,13 @@ type ReadBatch = unsafe extern "C" fn(
 #[cfg(before)]
 unsafe extern "C" {
     /// `mz_read_batch` of the other library, under the name that `./bench` gives it.
-    fn before_read_batch(
-        tag: *const u8,
-        tag_len: usize,
-        starts: *mut usize,
-        starts_len: usize,
-        ends: *mut usize,
-        ends_len: usize,
-        state: *mut usize,
-        html: bool,
-        checks: bool,
-        out: *mut usize,
-        out_len: usize,
-    ) -> usize;
+    fn before_read_batch();
 }
 
+// SAFETY: whoever names a library to `./bench --before` says that its batch has this form.
 #[cfg(before)]
-const BEFORE: Option<ReadBatch> = Some(before_read_batch);
+const BEFORE: Option<ReadBatch> =
+    Some(unsafe { std::mem::transmute::<unsafe extern "C" fn(), ReadBatch>(before_read_batch) });
 #[cfg(not(before))]
 const BEFORE: Option<ReadBatch> = None;
 
