@@ -627,6 +627,36 @@ fn record_room(_: &Extent, tally: &mut Tally) -> Result<(), String> {
     pair.expect(Call::Add(None, "u".to_string()), 18)
 }
 
+/// Level 0 on full tables, the records or the text: what was added within a tag goes, the built-ins stay; and what was added at
+/// level 0 itself, none, one or all of it, stays at every level.
+fn level_zero(_: &Extent, tally: &mut Tally) -> Result<(), String> {
+    let (records, bytes) = (RECORDS - BUILT_IN, TEXT - BUILT_IN_TEXT);
+    let mut pair = Pair::fresh(SEED + 9, tally)?;
+    for (count, len) in [(records, 3), (1, bytes)] {
+        for at_zero in [0, 1, count] {
+            pair.make(Call::Fresh)?;
+            pair.expect(Call::SetLimit(usize::MAX), 0)?;
+            for index in 0..count {
+                if index == at_zero {
+                    pair.expect(Call::push(""), 0)?;
+                }
+                pair.make_alone(Call::Add(None, "u".repeat(len)))?;
+            }
+            for (call, own) in [
+                (Call::SetLevel(DEEPEST), count),
+                (Call::SetLevel(0), at_zero),
+                (Call::Pop, at_zero),
+                (Call::SetLevel(0), at_zero),
+            ] {
+                pair.expect(call, 0)?;
+                pair.stated("the record count", pair.ours.head[1], BUILT_IN + own)?;
+                pair.stated("text used", pair.ours.head[0], BUILT_IN_TEXT + own * len)?;
+            }
+        }
+    }
+    Ok(())
+}
+
 /// A call of each kind. Each would change or answer something on the resolver that it is made on.
 fn call_of_each_kind() -> Vec<Call> {
     vec![
@@ -958,12 +988,13 @@ fn hold_bad(scope: &Scope, tally: &mut Tally) -> Result<(), String> {
     Ok(())
 }
 
-const PARTS: [(&str, Part<Extent, Tally>); 11] = [
+const PARTS: [(&str, Part<Extent, Tally>); 12] = [
     ("document 01's rows", stated_rows),
     ("limits", limits),
     ("depth", depth),
     ("text full", text_room),
     ("records full", record_room),
+    ("level 0", level_zero),
     ("wrong lengths", wrong_lengths),
     ("nil", nils),
     ("drawn calls", drawn),
@@ -972,11 +1003,12 @@ const PARTS: [(&str, Part<Extent, Tally>); 11] = [
     ("short memory", short::short_memory),
 ];
 
-const MOST_CALLS: [&str; 5] = [
+const MOST_CALLS: [&str; 6] = [
     "document 01's rows",
     "limits",
     "depth",
     "records full",
+    "level 0",
     "filled tables",
 ];
 

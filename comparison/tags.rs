@@ -545,6 +545,15 @@ fn hold_without_room(tag: Tag, state: &State, varied: usize) -> Result<(), Strin
     ))
 }
 
+/// A state that is 7, which leaves nothing recorded.
+fn hold_bad(tag: Tag, mut ours: State, tally: &mut Tally) -> Result<(), String> {
+    let mut wanted = ours.zeroed();
+    wanted.numbers[3] = OUT_FULL;
+    tally.bad += 1;
+    tally.steps += 1;
+    hold_step(tag, &mut ours, &wanted, Some([7, 0, 0, 0, 0]))
+}
+
 /// States by hand that are not bad by a place or by a key: more keys than any table holds, by the count alone,
 /// and a kind of place that there isn't. And a position beside done, which changes nothing.
 fn hold_by_hand(tag: Tag, place: Place, tally: &mut Tally) -> Result<(), String> {
@@ -558,11 +567,7 @@ fn hold_by_hand(tag: Tag, place: Place, tally: &mut Tally) -> Result<(), String>
     for [kind, at, count] in bad {
         let mut ours = State::at(place, &[]);
         ours.numbers = [kind, at, count, UNTOUCHED];
-        let mut wanted = ours.zeroed();
-        wanted.numbers[3] = OUT_FULL;
-        tally.bad += 1;
-        tally.steps += 1;
-        hold_step(tag, &mut ours, &wanted, Some([7, 0, 0, 0, 0]))?;
+        hold_bad(tag, ours, tally)?;
     }
     let mut ours = State::at(Place::Done, &[]);
     ours.numbers[1] = at;
@@ -612,6 +617,24 @@ fn hold_states(bytes: &[u8], lists: &[Vec<Range<usize>>], tally: &mut Tally) -> 
             hold_by_hand(tag, place, tally)?;
             for keys in lists {
                 hold_state(tag, place, keys, tally)?;
+            }
+        }
+    }
+    Ok(())
+}
+
+/// A skip from `=` goes to the first whitespace, also within quotes. At any other place, such as the quote or whitespace before
+/// it, it is 7: so no quote is ever honoured.
+fn skips_from_eq(_: &Extent, tally: &mut Tally) -> Result<(), String> {
+    const EQ: usize = 1;
+    for value in ["\"b c d\"", "'b c d'", " \"b c d\"", " 'b c d'"] {
+        let text = format!("a={value} e");
+        tally.tags += 1;
+        for tag in Tag::readings(text.as_bytes()) {
+            hold_state(tag, Place::SkipEqValue(EQ), &[0..1], tally)?;
+            for at in (0..=text.len()).filter(|&at| at != EQ) {
+                let state = State::at(Place::SkipEqValue(at), &[0..1]);
+                hold_bad(tag, state, tally)?;
             }
         }
     }
@@ -888,10 +911,11 @@ fn every_number_of_places(tally: &mut Tally) -> Result<(), String> {
     Ok(())
 }
 
-const PARTS: [(&str, Part<Extent, Tally>); 6] = [
+const PARTS: [(&str, Part<Extent, Tally>); 7] = [
     ("every byte", every_byte),
     ("every short tag", every_short),
     ("drawn short tags", drawn_short),
+    ("skips from `=`", skips_from_eq),
     ("states", states),
     ("drawn long tags", drawn_long),
     ("few places", few_places),

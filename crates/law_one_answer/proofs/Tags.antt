@@ -38,7 +38,6 @@ use Rattle.scan.proofs.whitespace_from as scan·whitespace-from
 use Rattle.scan.proofs.content_from as scan·content-from
 use Rattle.scan.proofs.key_end_from as scan·key-end-from
 use Rattle.scan.proofs.byte_from as scan·byte-from
-use Rattle.scan.proofs.byte_by_bytes as scan·byte-by-bytes
 use Rattle.scan.proofs.byte_near as scan·byte-near
 use Rattle.scan.proofs.inside as scan·inside
 use Rattle.scan.proofs.same as scan·same
@@ -125,9 +124,6 @@ module _ {M : Type 1} (𝓤 : URA M) (H : Heap 𝓤) (A : Atoms 𝓤) (mem : Mem
 
   pub scan-byte-from : Settled 𝓤 scan·byte-from.ended (scan·byte-from.clauses 𝓤 H A mem run)
   scan-byte-from κs a g y z = alone 𝓤 _ y z refl
-
-  pub scan-byte-by-bytes : Settled 𝓤 scan·byte-by-bytes.ended (scan·byte-by-bytes.clauses 𝓤 H A mem run)
-  scan-byte-by-bytes κs a g y z = alone 𝓤 _ y z refl
 
   pub scan-byte-near : Settled 𝓤 scan·byte-near.ended (scan·byte-near.clauses 𝓤 H A mem run)
   scan-byte-near κs a g y z = alone 𝓤 _ y z refl

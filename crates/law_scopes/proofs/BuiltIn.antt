@@ -11,11 +11,10 @@ use Rattle.scope_table.specs.Records.{recordAt, bindingOf, prefixIn, valueIn}
 use Rattle.scope_table.specs.Table.{builtIn, textOf}
 use Rattle.scope_table.specs.declared.NamespaceBinding.{NamespaceBinding}
 use Rattle.scope_table.specs.declared.NamespaceResolver.{NamespaceResolver}
-use Rattle.scope_table.proofs.Good.{Shaped, form-of}
+use Rattle.scope_table.proofs.Good.{Said, says, Shaped, form-of}
 use Rattle.law_scopes.specs.Scopes.{made}
 use Rattle.law_scopes.specs.Made.{madeOf, madeAt}
 use Rattle.law_scopes.specs.Promises.{BuiltInsStand}
-use Rattle.law_scopes.proofs.Records.{Said, says}
 
 built-whole : take 73 builtIn ≡ builtIn
 unfolding builtIn bytes bytesFrom

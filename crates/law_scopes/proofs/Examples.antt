@@ -2,7 +2,7 @@
 -- them. The tables that are full, for 18 and 19, are reached by calls and never written out.
 use Prim.Native.Nat.{ℕ, zero, suc, _+_, _≤_, _<_}
 use mathlib.Core.Path.{_≡_, refl, sym, ap, subst, _∙_}
-use mathlib.Core.Bool.{true}
+use mathlib.Core.Bool.{true, false}
 use mathlib.Core.List.{List, [], _∷_, _++_}
 use native.Mathlib.Omega.{arith}
 use lib.ListN.{length, replicate, length-append, length-replicate}
@@ -19,16 +19,20 @@ use Rattle.name.specs.Bind.{reservedBind}
 use Rattle.name.specs.Declares.{opening, isNamed, declaresOf, declaredPrefix}
 use Rattle.name.specs.declared.PrefixDeclaration.the-variants.{Default, Named}
 use Rattle.scope_table.specs.Table.{TEXT, RECORDS, LIMIT, headOf, resolverOf, isWithin, opensBuiltIn, isTable, validOf, freshOf}
+use Rattle.scope_table.specs.Lists.{lastBelow}
 use Rattle.scope_table.specs.Answer.{changed}
 use Rattle.scope_table.specs.declared.NamespaceResolver.{NamespaceResolver}
 use Rattle.scope_table.specs.declared.NamespaceResult.the-variants.{Done, InvalidXmlnsPrefixBind, TooManyBindings, BindingTableFull, TextFull, BadResolver, LendMore, WrongLength}
+use Rattle.scope_change.specs.Change.{keptAt, droppedOf, levelOf}
 use Rattle.scope_declare.specs.declared.Judged.the-variants.{Bind}
 use Rattle.scope_declare.specs.Declare.{wholly, namedOf, judgeOf, addOf, popOf}
 use Rattle.scope_push.specs.Push.{declarationOf, declarationThen, declarationsOf, tagAnswers, pushOf}
-use Rattle.law_scopes.specs.Calls.{Call, add, push, pop, setLimit, callOf, testsForm, leftBy, answersBy}
+use Rattle.law_scopes.specs.Calls.{Call, add, push, pop, setLevel, setLimit, callOf, testsForm, leftBy, answersBy}
 use Rattle.law_scopes.specs.Scopes.{Made, made, Scopes, scopes, ScopesTold, told, noScopes, sizeOf, roomFor, bindIn, settleIn, declareIn, declareAllIn, keeps, upTo, levelIn, callIn, scopesAfter, answersIn}
 use Rattle.law_scopes.specs.Made.{madeAt, seen}
 use Rattle.law_scopes.specs.Promises.{PushPopReturns, ValidStays, ReachedValid, BadStays, BadOnly, SizedStays, NeverLends, SixteenExactly, EighteenExactly, NineteenExactly, ScopesFollow, BuiltInsStand, ScopesDetermine, ScopeSums, AnswersFollow}
+use Rattle.law_scopes.specs.DeadClear.{clearsAll, levelArmBy, levelArmOf, crateSetLevelOf, DeadClear}
+use Rattle.law_scopes.proofs.DeadClear.{dead-clear}
 use Rattle.law_scopes.proofs.Valid.{fresh-proper, valid-stays, reached-valid}
 use Rattle.law_scopes.proofs.Twenty.{bad-stays, bad-only, sized-stays, never-lends}
 use Rattle.law_scopes.proofs.BuiltIn.{built-ins-stand}
@@ -54,7 +58,7 @@ outer more = made [] (bytes "u") 1 ∷ made (bytes "p") (bytes "v") 1 ∷ more
 abbrev both : List Made
 both = outer (made (bytes "q") (bytes "w") 2 ∷ made (bytes "s") (bytes "z") 2 ∷ [])
 
--- `q` stands, the reserved prefix is 13 with its value, and `r` is not come to; a pop leaves the outer tag's
+-- `q` stands, the reserved prefix is 13 with its value, and `r` is not come to; a pop leaves the outer tag's, and level 0 none
 pub history-example :
     (answersIn (history []) noScopes ≡ Done ∷ InvalidXmlnsPrefixBind 26 27 ∷ Done ∷ [])
     × (scopesAfter (history []) noScopes ≡ scopes both 2 LIMIT)
@@ -62,8 +66,9 @@ pub history-example :
     × (scopesAfter (history (pop ∷ pop ∷ [])) noScopes ≡ noScopes)
     × (callIn (push outerTag 0) noScopes ≡ told Done (scopes (outer []) 1 LIMIT))
     × (sizeOf both ≡ 7)
+    × (scopesAfter (history (setLevel 0 (omega arith) ∷ [])) noScopes ≡ noScopes)
 unfolding firstOf firstTo firstFrom isSpace notSpace endsKey isByte part sameBytes bytesFrom bytes keyGood keyBad countGood tableGood nameAt sameKey oldestOf earlierOf checkedBy checkedOf writtenBy countBy isAt isQuote skipTo skipOf recoverOf keyEq keyTo keyFrom keyAt quoted closedOf quotedTo quotedOf unquotedTo otherOf valueBy valueFrom valueAt checkOf keptBy placeAt bareBy bareTo bareOf valuedBy valuedTo valuedOf readKey readAt stepFrom stepOf placeGood keysOf stateGood noKeys badReading leaves nextOf opened isEnd consUnless runOf answersOf inside keyPart valuePart xmlPrefix xmlnsPrefix xmlUri xmlnsUri isXml isXmlns isXmlUri isXmlnsUri reservedBind opening isNamed declaresOf declaredPrefix namedOf judgeOf tagAnswers declarationOf declarationThen declarationsOf noScopes sizeOf roomFor bindIn settleIn declareIn declareAllIn keeps upTo levelIn callIn scopesAfter answersIn
-history-example = (refl, refl, refl, refl, refl, refl)
+history-example = (refl, refl, refl, refl, refl, refl, refl)
 
 -- The fresh resolver, and what calls make of it.
 
@@ -129,6 +134,29 @@ empty = resolverOf [] [] (headOf 0 0 0 LIMIT)
 pub bad-stays-instance : pushOf outerTag 0 empty ≡ changed BadResolver empty
 unfolding BadStays callOf testsForm validOf isTable isWithin opensBuiltIn
 bad-stays-instance = bad-stays empty refl (push outerTag 0) refl
+
+-- The crate's `set_level`.
+
+level-left : (x : NamespaceResolver) (level : ℕ) → validOf x ≡ true → levelOf level x .resolver ≡ droppedOf level x
+unfolding levelOf
+level-left x level valid = rw valid
+
+-- level 0 within two tags: the built-ins stay, and it is the fresh resolver again
+pub dead-clear-instance : crateSetLevelOf 0 (leftBy (history []) freshOf) ≡ freshOf
+unfolding DeadClear ScopesDetermine ReachedValid leftBy callOf
+dead-clear-instance =
+    let x = leftBy (history []) freshOf in
+    let calls = history (setLevel 0 (omega arith) ∷ []) in
+    let valid : validOf x ≡ true = reached-valid (history []) .valid in
+    let same : leftBy calls freshOf ≡ droppedOf 0 x = level-left x 0 valid in
+    dead-clear x valid 0 .leaves ∙ sym same
+    ∙ scopes-determine (leftBy calls freshOf) freshOf (reached-valid calls) fresh-proper
+    (left-standing calls freshOf fresh-proper ∙ ap (scopesAfter calls) fresh-none ∙ history-example .6 ∙ sym fresh-none)
+
+-- where not even the built-ins are in use, everything would be cleared; but 20 refuses that resolver
+pub clears-example : (levelArmOf 0 empty ≡ clearsAll) × (validOf empty ≡ false)
+unfolding levelArmBy levelArmOf keptAt lastBelow validOf isTable isWithin opensBuiltIn
+clears-example = (refl, refl)
 
 -- 12 to 15 let this prefix through, whole.
 p-binds : judgeOf Named (bytes "p") (bytes "v") (wholly (bytes "p") (bytes "v")) ≡ Bind 1

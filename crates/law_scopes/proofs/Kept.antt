@@ -13,10 +13,10 @@ use Rattle.scope_table.proofs.Turns.{text-grows}
 use Rattle.scope_table.proofs.Rows.{rows-full, Same, same-take, text-same, before-same}
 use Rattle.scope_table.proofs.Good.{Shaped}
 use Rattle.scope_change.specs.Change.{keptAt, keptOf, droppedOf}
-use Rattle.scope_change.proofs.Change.{keep-within}
+use Rattle.scope_change.proofs.Change.{keep-within, keep-two}
 use Rattle.law_scopes.specs.Sized.{Sized}
 use Rattle.law_scopes.proofs.Lists.{take-of-cut, cut-rest}
-use Rattle.law_scopes.proofs.Records.{says, opening-within, kept-least, kept-below}
+use Rattle.law_scopes.proofs.Records.{opening-within, kept-below}
 
 module _ (x : NamespaceResolver) (s : Sized x) (f : Shaped x) where
   module _ (k to : ℕ) (within : k ≤ x .head .count) where
@@ -69,12 +69,6 @@ module _ (x : NamespaceResolver) (s : Sized x) (f : Shaped x) where
   pub kept-within : (to : ℕ) → kept to ≤ x .head .count
   kept-within to = keep-within (recordAt (x .records)) to (x .head .count)
 
-  -- the built-ins are at level 0, so every level keeps them
-  pub kept-two : (to : ℕ) → 2 ≤ kept to
-  kept-two to =
-      let b = says (recordAt (x .records) 1) 5 29 0 (f .xmlns) in
-      kept-least (recordAt (x .records)) to (x .head .count) 1 (f .two) (omega (arith, b .level))
-
   pub dropped-sized : (to : ℕ) → Sized (droppedOf to x)
   unfolding droppedOf
   dropped-sized to = kept-sized (kept to) to (kept-within to)
@@ -82,5 +76,5 @@ module _ (x : NamespaceResolver) (s : Sized x) (f : Shaped x) where
   pub dropped-form : (to : ℕ) → to ≤ DEEPEST → Shaped (droppedOf to x)
   unfolding droppedOf
   dropped-form to deep =
-      kept-form (kept to) to (kept-within to) deep (kept-two to)
+      kept-form (kept to) to (kept-within to) deep (keep-two (x .text) (x .records) (x .head) f to)
       (kept-below (recordAt (x .records)) to (x .head .count) (f .rises))

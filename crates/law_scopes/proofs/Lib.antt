@@ -14,4 +14,5 @@ pub mod Follow
 pub mod Returns
 pub mod Sums
 pub mod Exactly
+pub mod DeadClear
 pub mod Examples

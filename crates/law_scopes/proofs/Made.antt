@@ -15,13 +15,14 @@ use Rattle.scope_table.proofs.Turns.{text-next, text-grows}
 use Rattle.scope_table.proofs.Rows.{Same}
 use Rattle.scope_table.proofs.Good.{Shaped}
 use Rattle.scope_change.specs.Change.{boundOf, keptOf, droppedOf}
+use Rattle.scope_change.proofs.Change.{keep-two}
 use Rattle.law_scopes.specs.Sized.{Sized}
 use Rattle.law_scopes.specs.Scopes.{made, sizeOf, upTo}
 use Rattle.law_scopes.specs.Made.{madeOf, madeAt, madeIn}
 use Rattle.law_scopes.proofs.Lists.{take-of-cut}
 use Rattle.law_scopes.proofs.Records.{text-two, kept-below, kept-above}
 use Rattle.law_scopes.proofs.Bound.{Takes, old-stay, new-stands}
-use Rattle.law_scopes.proofs.Kept.{text-fits, kept-stay, kept, kept-within, kept-two}
+use Rattle.law_scopes.proofs.Kept.{text-fits, kept-stay, kept, kept-within}
 use Rattle.law_scopes.proofs.Parts.{prefix-back, value-back}
 use Rattle.law_scopes.proofs.Listed.{size-append, up-list}
 
@@ -97,7 +98,7 @@ module _ (x : NamespaceResolver) (s : Sized x) (f : Shaped x) (to : ℕ) where
   unfolding droppedOf keptOf madeIn madeAt madeOf
   dropped-made =
       let w = kept-within x s f to in
-      let two = kept-two x s f to in
+      let two = keep-two (x .text) (x .records) (x .head) f to in
       let rows = recordAt (x .records) in
       list-same (λ i. madeAt (droppedOf to x) (2 + i)) (λ i. madeAt x (2 + i)) (k - 2) (λ i h. stays (2 + i) (omega arith))
       ∙ sym (up-list to (λ i. madeAt x (2 + i)) (x .head .count - 2) (k - 2) (omega arith)

@@ -1,21 +1,20 @@
--- What the built-in records say, and how many of the records a level keeps.
+-- How long the text of the built-ins is; and that what a level keeps is not above it, and what it drops is.
 use Prim.Native.Nat.{ℕ, zero, suc, _≤_, _<_}
-use mathlib.Core.Path.{_≡_, ap}
+use mathlib.Core.Path.{_≡_}
 use mathlib.Core.Bool.{true}
 use mathlib.Core.Logic.{⊎-elim}
 use native.Mathlib.Nat.{not-suc-le-zero, eq-or-lt-of-le}
 use native.Mathlib.Omega.{arith}
-use lib.Dec.{eqb, leb}
-use borrow.Author.Tests.{eqb-true, leb-true, leb-false}
+use lib.Dec.{leb}
+use borrow.Author.Tests.{leb-true, leb-false}
 use Rattle.scan.proofs.Laws.{picks}
 use Rattle.scope_table.specs.Lists.{lastBelow}
 use Rattle.scope_table.specs.Records.{recordAt}
 use Rattle.scope_table.specs.Table.{textOf, levelBefore, isRecord}
 use Rattle.scope_table.specs.declared.NamespaceBinding.{NamespaceBinding}
 use Rattle.scope_table.specs.declared.NamespaceResolver.{NamespaceResolver}
-use Rattle.scope_table.proofs.Lists.{and-left, and-right}
 use Rattle.scope_table.proofs.Turns.{text-grows}
-use Rattle.scope_table.proofs.Good.{Shaped}
+use Rattle.scope_table.proofs.Good.{Shaped, says}
 use Rattle.scope_change.specs.Change.{keptAt}
 
 -- no level before record n is above what the first n are not above
@@ -24,22 +23,7 @@ unfolding levelBefore
 before-top zero top rows h = omega arith
 before-top (suc n) top rows h = h n (omega arith)
 
--- The built-ins have 73 bytes, and level 0.
-
-pub record Said (b : NamespaceBinding) (p v l : ℕ) : Type 0 where
-  pub prefix-len : b .«prefix_len» ≡ p
-  pub value-len : b .«value_len» ≡ v
-  pub level : b .level ≡ l
-
-pub says : (b : NamespaceBinding) (p v l : ℕ) → isRecord b p v l ≡ true → Said b p v l
-unfolding isRecord
-says b p v l e =
-    let r = and-right (eqb (b .«prefix_len») p) _ e in
-    record {
-      prefix-len = eqb-true _ _ (and-left (eqb (b .«prefix_len») p) _ e);
-      value-len = eqb-true _ _ (and-left (eqb (b .«value_len») v) _ r);
-      level = eqb-true _ _ (and-right (eqb (b .«value_len») v) _ r);
-    }
+-- The built-ins have 73 bytes.
 
 pub text-two : (rows : ℕ → NamespaceBinding) → isRecord (rows 0) 3 36 0 ≡ true → isRecord (rows 1) 5 29 0 ≡ true → textOf rows 2 ≡ 73
 unfolding textOf
@@ -56,16 +40,6 @@ opening-within x f n h =
 -- The records that a level keeps.
 
 module _ (rows : ℕ → NamespaceBinding) (v : ℕ) where
-  -- they go up to any record that is not above it
-  pub kept-least : (n m : ℕ) → suc m ≤ n → rows m .level ≤ v → suc m ≤ keptAt rows v n
-  unfolding keptAt lastBelow
-  kept-least zero m h l = h
-  kept-least (suc n) m h l =
-      picks (λ (k : ℕ). suc m ≤ k) (leb (rows n .level) v) (λ e. h)
-      (λ e.
-      let f = leb-false (rows n .level) v e in
-      ⊎-elim (λ (q : m ≡ n). absurd (omega (arith, ap (λ (k : ℕ). rows k .level) q))) (λ (i : m < n). kept-least n m i l) (eq-or-lt-of-le (omega arith)))
-
   abbrev pub Rising : ℕ → Type 0
   Rising n = (k : ℕ) → k < n → levelBefore rows k ≤ rows k .level
 

@@ -3,3 +3,4 @@ pub mod Calls
 pub mod Scopes
 pub mod Made
 pub mod Promises
+pub mod DeadClear

@@ -19,13 +19,14 @@ use Rattle.tag_step.specs.declared.Answer.{Answer}
 use Rattle.tag_step.specs.declared.Answer.the-variants.{End, DoubleQ, SingleQ, Unquoted, Empty, ExpectedEq, ExpectedValue, UnquotedValue, ExpectedQuote, Duplicated, KeyTableFull, BadState}
 use Rattle.tag_step.specs.declared.IterState.{IterState}
 use Rattle.tag_step.specs.declared.Step.{Step}
-use Rattle.tag_step.specs.Read.{span, isAt, isQuote, skipTo, skipOf, skipEqValueOf, recoverOf, keyEq, keyTo, keyFrom, keyAt, quoted, closedOf, quotedTo, quotedOf, unquotedTo, otherOf, valueBy, valueFrom, valueAt}
+use Rattle.tag_step.specs.Read.{span, isAt, isQuote, skipTo, skipOf, recoverOf, keyEq, keyTo, keyFrom, keyAt, quoted, closedOf, quotedTo, quotedOf, unquotedTo, otherOf, valueBy, valueFrom, valueAt}
 use Rattle.tag_step.specs.Next.{checkOf, keptBy, placeAt, bareBy, bareTo, bareOf, valuedBy, valuedTo, valuedOf, readKey, readAt, stepFrom, stepOf, placeGood, keysOf, stateGood, noKeys, badReading, leaves, nextOf, opened}
 use Rattle.tag_step.specs.Run.{runOf, answersOf}
 use Rattle.tag_step.proofs.Good.{Sized, opened-good, next-stays-good}
-use Rattle.tag_step.proofs.Paths.{skip-eq-plain}
 use Rattle.tag_step.proofs.Run.{run-whole}
 use Rattle.law_steps.specs.Steps.{FullTables, Broken, outsideKey, SevenExactly, valued, SixExactly, onlySpace, RecordsIts, RowLeft, LeavesExact, EndExactly, EndStays, Forward, StepForward}
+use Rattle.law_steps.specs.DeadQuotes.{quote, other, skipArmAt, skipArmOf, skipArmGoes, crateSkipEqValueOf, DeadQuotes}
+use Rattle.law_steps.proofs.DeadQuotes.{dead-quotes}
 use Rattle.law_steps.proofs.Leaves.{leaves-exact}
 use Rattle.law_steps.proofs.Refusals.{good-whole, six-exactly, seven-exactly}
 use Rattle.law_steps.proofs.Steps.{end-exactly, end-stays, step-forward}
@@ -212,7 +213,7 @@ forward-example =
     (λ (e : Duplicated 4 0 ≡ End). let z : _≡_ {A = ℕ} 0 1 = cc in omega arith)
     (λ (e : Duplicated 4 0 ≡ BadState). let z : _≡_ {A = ℕ} 0 1 = cc in omega arith)
 
--- Three laws of the iterator that these stand on.
+-- Two laws of the iterator that these stand on.
 
 -- a longer run has no more answers
 opened-sized : Sized (opened 0 false true)
@@ -227,7 +228,21 @@ run-whole-example = run-whole 3 three-tag (opened 0 false true) opened-sized
 pub stays-good-example : stateGood (tag "a") (nextOf (tag "a") (at (SkipValue 1) true false 0 8 1 9 1) .state) ≡ true
 stays-good-example = next-stays-good (tag "a") (at (SkipValue 1) true false 0 8 1 9 1) (record { starts = refl; ends = refl })
 
+-- The crate's skip from `=`.
+
+abbrev skipping : IterState
+skipping = at (SkipEqValue 1) false true 0 8 1 9 1
+
 -- from the `=` on, the first whitespace, though it stands between quotes
-pub skip-eq-example : skipEqValueOf (tag "a=\"2 3\" b") 1 ≡ From 4
-unfolding firstOf firstTo firstFrom isSpace bytesFrom bytes isAt skipTo skipOf placeGood
-skip-eq-example = skip-eq-plain (tag "a=\"2 3\" b") 1 refl
+pub dead-quotes-example : (skipArmOf (tag "a=\"2 3\" b") 1 ≡ other 1) × (crateSkipEqValueOf (tag "a=\"2 3\" b") 1 ≡ From 4)
+unfolding DeadQuotes firstOf firstTo firstFrom isSpace bytesFrom bytes keyGood keyBad countGood tableGood isAt skipTo skipOf placeGood keysOf stateGood
+dead-quotes-example =
+    let p = dead-quotes (tag "a=\"2 3\" b") skipping refl 1 refl in
+    (p .arm, p .skips)
+
+-- Where a quote stands at the place, the crate's branch would be taken and end at the closing quote; but that state is 7.
+pub quote-example :
+    (skipArmOf (tag "a=\"2 3\" b") 2 ≡ quote 2 34) × (crateSkipEqValueOf (tag "a=\"2 3\" b") 2 ≡ From 6)
+    × (nextOf (tag "a=\"2 3\" b") (at (SkipEqValue 2) false true 0 8 1 9 1) .answer ≡ BadState)
+unfolding firstOf firstTo firstFrom isSpace notSpace isByte bytesFrom bytes keyGood keyBad countGood tableGood isAt isQuote skipTo skipOf placeGood keysOf stateGood badReading leaves nextOf skipArmAt skipArmOf skipArmGoes crateSkipEqValueOf
+quote-example = (refl, refl, refl)

@@ -1,4 +1,5 @@
 pub mod Leaves
 pub mod Refusals
 pub mod Steps
+pub mod DeadQuotes
 pub mod Examples

@@ -43,7 +43,7 @@ module _ (s : List ℕ) (st : IterState) where
   unfolding placeGood
   skips-in o p = ltb-true o (length s) p
 
-  skips-eq : (o : ℕ) → placeGood s (SkipEqValue o) ≡ true → (o < length s) × (getD s o 0 ≡ 61)
+  pub skips-eq : (o : ℕ) → placeGood s (SkipEqValue o) ≡ true → (o < length s) × (getD s o 0 ≡ 61)
   unfolding placeGood isAt
   skips-eq o p =
       let b = both (ltb o (length s)) (eqb (getD s o 0) 61) p in

@@ -7,12 +7,13 @@ use mathlib.Core.List.{List, [], _∷_, _++_}
 use mathlib.Core.Logic.{⊎-elim}
 use native.Mathlib.Nat.{eq-or-lt-of-le}
 use native.Mathlib.Omega.{arith}
-use lib.Dec.{eqb, leb, ltb}
+use lib.Dec.{leb, ltb}
 use lib.ListN.{length, take, drop, length-append}
-use borrow.Author.Tests.{leb-false, ltb-false, ne-eqb, le-leb, lt-leb, lt-ltb, le-ltb}
+use borrow.Author.Tests.{leb-false, ltb-false, le-leb, lt-leb, lt-ltb, le-ltb}
 use Rattle.scan.specs.First.{pick}
 use Rattle.scan.specs.Lists.{over, padTo}
-use Rattle.scope_table.specs.Lists.{cut}
+use Rattle.scan.proofs.Laws.{picks}
+use Rattle.scope_table.specs.Lists.{lastBelow, cut}
 use Rattle.scope_table.specs.Records.{rowAt, recordAt, bindingOf, rowOf}
 use Rattle.scope_table.specs.Table.{TEXT, RECORDS, NUMBERS, headOf, resolverOf, textOf, validOf}
 use Rattle.scope_table.specs.Answer.{isDone, changed}
@@ -23,11 +24,11 @@ use Rattle.scope_table.specs.declared.NamespaceResolver.{NamespaceResolver}
 use Rattle.scope_table.specs.declared.NamespaceResult.{NamespaceResult}
 use Rattle.scope_table.specs.declared.NamespaceResult.the-variants.{Done, TooManyBindings, BindingTableFull, TextFull, BadResolver, LendMore}
 use Rattle.scope_table.proofs.Lists.{and-left, and-right, and-take}
-use Rattle.scope_table.proofs.Last.{last-hit, last-miss, last-none, last-within}
+use Rattle.scope_table.proofs.Last.{last-hit, last-miss, last-within}
 use Rattle.scope_table.proofs.Rows.{rows-before, rows-within, row-fits}
 use Rattle.scope_table.proofs.Turns.{text-grows}
 use Rattle.scope_table.proofs.Pad.{pad-records, pad-over, pad-cut, holds-within, holds-is}
-use Rattle.scope_table.proofs.Good.{Ready}
+use Rattle.scope_table.proofs.Good.{Formed, says, Ready}
 use Rattle.scope_table.proofs.Calls.{unchanged, changes, lends-more}
 use Rattle.scope_change.specs.Change.{boundOf, refusalOf, appendOf, lentRefusalOf, keptAt, endOf, keptOf, droppedOf, levelOf}
 use Rattle.scope_change.specs.Asked.{HoldsBinding, CanAppend}
@@ -138,22 +139,31 @@ module _ (rows : ℕ → NamespaceBinding) (v : ℕ) where
   unfolding keptAt stays
   keep-miss i b p e h = last-miss stays i p (lt-leb (rows (i - 1) .level) v (omega (arith, level-is (i - 1) b e)))
 
-  pub keep-none : (i : ℕ) → i ≤ 0 → keptAt rows v i ≡ 0
-  unfolding keptAt stays
-  keep-none i h = last-none stays i h
-
   pub keep-within : (n : ℕ) → keptAt rows v n ≤ n
   unfolding keptAt stays
   keep-within n = last-within stays n
 
+  -- at least up to any record that is not above the level
+  pub keep-least : (n m : ℕ) → suc m ≤ n → rows m .level ≤ v → suc m ≤ keptAt rows v n
+  unfolding keptAt lastBelow
+  keep-least zero m h l = h
+  keep-least (suc n) m h l =
+      picks (λ (k : ℕ). suc m ≤ k) (leb (rows n .level) v) (λ e. h)
+      (λ e.
+      let f = leb-false (rows n .level) v e in
+      ⊎-elim (λ (q : m ≡ n). absurd (omega (arith, ap (λ (k : ℕ). rows k .level) q))) (λ (i : m < n). keep-least n m i l) (eq-or-lt-of-le (omega arith)))
+
+-- The built-ins are at level 0, so every level keeps them.
+pub keep-two : (text records : List ℕ) (head : Head) → Formed text records head → (to : ℕ) → 2 ≤ keptAt (recordAt records) to (head .count)
+keep-two text records head f to =
+    let b = says (recordAt records 1) 5 29 0 (f .xmlns) in
+    keep-least (recordAt records) to (head .count) 1 (f .two) (omega (arith, b .level))
+
 -- Where the text of the kept records ends, by what they say and by their lengths.
 pub end-is : (rows : ℕ → NamespaceBinding) (k n used : ℕ) → k ≤ n → ((j : ℕ) → j < n → rows j .start ≡ textOf rows j) → textOf rows n ≡ used → endOf rows k n used ≡ textOf rows k
-unfolding endOf textOf
-end-is rows zero n used h links ends = refl
-end-is rows (suc k) n used h links ends =
-    ⊎-elim (λ (q : suc k ≡ n). rw (ne-eqb (suc k) 0 (λ z. omega arith), le-ltb (suc k) n (omega arith)) (sym ends ∙ ap (textOf rows) (sym q)))
-    (λ (l : suc k < n). rw (ne-eqb (suc k) 0 (λ z. omega arith), lt-ltb (suc k) n l) (links (suc k) l))
-    (eq-or-lt-of-le h)
+unfolding endOf
+end-is rows k n used h links ends =
+    ⊎-elim (λ (q : k ≡ n). rw (le-ltb k n (omega arith)) (sym ends ∙ ap (textOf rows) (sym q))) (λ (l : k < n). rw (lt-ltb k n l) (links k l)) (eq-or-lt-of-le h)
 
 -- The records above a level dropped.
 module _ (text records : List ℕ) (head : Head) (ok : Ready text records head) (to k e : ℕ) (ek : k ≡ keptAt (recordAt records) to (head .count)) (ee : e ≡ endOf (recordAt records) k (head .count) (head .used)) where

@@ -3,7 +3,7 @@ use Prim.Native.Nat.{ℕ, _+_, _-_}
 use mathlib.Core.Bool.{Bool, _&&_}
 use mathlib.Core.List.{List, _++_}
 use lib.ListN.{length}
-use lib.Dec.{eqb, leb, ltb}
+use lib.Dec.{leb, ltb}
 use Rattle.scan.specs.First.{pick}
 use Rattle.scan.specs.Lists.{over}
 use Rattle.scope_table.specs.Lists.{lastBelow, cut}
@@ -65,7 +65,7 @@ keptAt rows level n = lastBelow (λ i. leb (rows i .level) level) n
 -- Where the text of the first k of n records ends, as the records say it: where the next one starts, or at text used
 -- after the last. In a table of the right form this is `textOf` of k.
 unfoldable pub endOf : (rows : ℕ → NamespaceBinding) (k n used : ℕ) → ℕ
-endOf rows k n used = pick (eqb k 0) 0 (pick (ltb k n) (rows k .start) used)
+endOf rows k n used = pick (ltb k n) (rows k .start) used
 
 -- The first k records with their text, and zeros after them; at this level.
 unfoldable pub keptOf : (k level : ℕ) → NamespaceResolver → NamespaceResolver

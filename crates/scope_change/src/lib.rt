@@ -154,13 +154,14 @@ pub fn append_in<'p>(
 }
 
 // How many of the first n records stay at a level: one more than the place that `rposition` finds in
-// `NamespaceResolver::set_level`, src/name.rs, and 0 where it finds none.
+// `NamespaceResolver::set_level`, src/name.rs. The built-ins, at level 0, stay at every level and are not asked.
 fn kept(records: &[usize], n: usize, level: usize) -> usize
     requires { ⌜ rowAt n ≤ length (now records) ⌝ }
+    requires { ⌜ 2 ≤ keptAt (recordAt (now records)) level n ⌝ }
     ensures { λ r. ⌜ r ≡ keptAt (recordAt (now (records .entry))) level n ⌝ }
 {
     let mut i = n;
-    while 0 < i {
+    while NamespaceResolver::BUILT_INS < i {
         let last = i - 1;
         let b = scope_table::record_at(records, last);
         if b.level <= level {
@@ -168,18 +169,14 @@ fn kept(records: &[usize], n: usize, level: usize) -> usize
         }
         i = last;
     }
-    0
+    NamespaceResolver::BUILT_INS
 }
 
-// Where the text of the first k records ends. The first branch is the crate's for a level that no record is at or below:
-// everything goes. The built-ins at level 0 keep it from being taken.
+// Where the text of the first k records ends: where the next one starts, or at text used after the last.
 fn text_end(records: &[usize], k: usize, count: usize, used: usize) -> usize
     requires { ⌜ rowAt count ≤ length (now records) ⌝ }
     ensures { λ r. ⌜ r ≡ endOf (recordAt (now (records .entry))) k count used ⌝ }
 {
-    if k == 0 {
-        return 0;
-    }
     if k < count {
         let b = scope_table::record_at(records, k);
         return b.start;
@@ -187,7 +184,9 @@ fn text_end(records: &[usize], k: usize, count: usize, used: usize) -> usize
     used
 }
 
-// The level is set to `to`, and the records above it are dropped with their text. It never needs more than is lent.
+// The level is set to `to`, and the records above it are dropped with their text. It never needs more than is lent. The
+// crate's branch for a level that no record is at or below, where everything goes, does not occur (`dead-clear` of crate
+// `law_scopes`).
 pub fn clear_above_in(text: &mut [u8], records: &mut [usize], head: Head, to: usize) -> Outcome
     requires { ⌜ formOf (now text) (now records) head ≡ Good ⌝ }
     ensures { λ r. ⌜ given (r .answer) (now (text .exit)) (now (records .exit)) (r .head)

@@ -45,6 +45,22 @@ within used count level e =
 pub within-rows : (bytes numbers used count level : ℕ) → fitsOf bytes numbers used count ≡ true → isWithin used count level ≡ true → rowAt count ≤ numbers
 within-rows bytes numbers used count level f e = fits-rows bytes numbers used count (within used count level e .few-records) f
 
+-- what a record with these lengths and this level says
+pub record Said (b : NamespaceBinding) (p v l : ℕ) : Type 0 where
+  pub prefix-len : b .«prefix_len» ≡ p
+  pub value-len : b .«value_len» ≡ v
+  pub level : b .level ≡ l
+
+pub says : (b : NamespaceBinding) (p v l : ℕ) → isRecord b p v l ≡ true → Said b p v l
+unfolding isRecord
+says b p v l e =
+    let r = and-right (eqb (b .«prefix_len») p) _ e in
+    record {
+      prefix-len = eqb-true _ _ (and-left (eqb (b .«prefix_len») p) _ e);
+      value-len = eqb-true _ _ (and-left (eqb (b .«value_len») v) _ r);
+      level = eqb-true _ _ (and-right (eqb (b .«value_len») v) _ r);
+    }
+
 -- All that refusal 20 asks of a table, one by one.
 pub record Formed (text records : List ℕ) (head : Head) : Type 0 where
   pub small : head .used ≤ TEXT

@@ -7,8 +7,8 @@ use mathlib.Core.List.{List}
 use native.Mathlib.Omega.{arith}
 use lib.ListN.{length, replicate, length-replicate}
 use Rattle.scan.specs.First.{pick}
-use Rattle.scan.proofs.Bytes.{and-on}
-use Rattle.tag_keys.specs.Keys.{capacity, KeyRoom}
+use Rattle.scan.proofs.Bytes.{and-on, both}
+use Rattle.tag_keys.specs.Keys.{capacity, KeysIn, KeyRoom, tableGood}
 use Rattle.tag_keys.proofs.Laws.{in-table, keys-none}
 use Rattle.tag_step.specs.declared.Place.{Place}
 use Rattle.tag_step.specs.declared.Place.the-variants.{Done}
@@ -20,9 +20,9 @@ use Rattle.tag_step.specs.declared.Stepped.{Stepped}
 use Rattle.tag_step.specs.declared.Stepped.the-variants.{Made, LendMore}
 use Rattle.tag_step.specs.declared.IterState.{IterState}
 use Rattle.tag_step.specs.Read.{found, recoverOf}
-use Rattle.tag_step.specs.Next.{Keys, Reading, Stands, keysLent, advanced, stepFrom, stepOf, placeGood, goodOf, keysOf, lentState, stateGood, noKeys, reading, badReading, leaves, nextOf, opened, withChecks}
+use Rattle.tag_step.specs.Next.{Keys, Reading, keysLent, advanced, stepFrom, stepOf, placeGood, goodOf, keysOf, lentState, stateGood, noKeys, reading, badReading, leaves, nextOf, opened, withChecks}
 use Rattle.tag_step.specs.Lent.{taken, stepIn}
-use Rattle.tag_step.proofs.Whole.{starts-in, good-stands, next-steps, next-bad}
+use Rattle.tag_step.proofs.Whole.{starts-in, good-inside, next-steps, next-bad}
 use Rattle.tag_step.proofs.Taken.{Held, step-keeps-held, step-held, room-made, room-never}
 use Rattle.tag_step.proofs.Progress.{after-good, read-forward}
 
@@ -33,6 +33,10 @@ step-stands s html checks keys place g = by (recoverOf s place) refl where
   by : (x : Start) → recoverOf s place ≡ x → placeGood s (stepFrom s html checks keys place x .place) ≡ true
   by Ended e = g
   by (From o) e = after-good s o _ (read-forward s html checks keys o (starts-in s place o e))
+
+-- keys that lie in the tag and a good place are a good state
+parts-good : (s : List ℕ) (keys : Keys) (place : Place) → KeysIn (keys .starts) (keys .ends) (keys .count) (length s) → placeGood s place ≡ true → goodOf s keys place ≡ true
+parts-good s keys place inside stands = sym (and-on (in-table (length s) (keys .starts) (keys .ends) (keys .count) inside) refl) ∙ stands
 
 -- The tables of a state of the code have 256 places each.
 pub record Sized (st : IterState) : Type 0 where
@@ -45,9 +49,9 @@ sized-room st z = record { room = λ _. (omega (arith, z .starts), omega (arith,
 
 -- So a step of a good state is taken, and no place is lacking.
 module _ (s : List ℕ) (st : IterState) (sized : Sized st) (good : stateGood s st ≡ true) where
-  pub sized-stands : Stands s (keysLent (st .starts) (st .ends) (st .count)) (st .place)
+  pub sized-inside : KeysIn (st .starts) (st .ends) (st .count) (length s)
   unfolding stateGood
-  sized-stands = good-stands s (keysLent (st .starts) (st .ends) (st .count)) (st .place) good
+  sized-inside = good-inside s (keysLent (st .starts) (st .ends) (st .count)) (st .place) good
 
   abbrev left : Reading
   left = stepOf s (st .html) (st .«check_duplicates») (keysOf st) (st .place)
@@ -55,12 +59,14 @@ module _ (s : List ℕ) (st : IterState) (sized : Sized st) (good : stateGood s 
   kept : Held s (keysOf st) (left .keys)
   unfolding keysOf
   kept =
-      step-keeps-held s (st .«check_duplicates») (keysOf st) (sized-stands .inside) (st .html) (st .place)
-      (step-held s (st .«check_duplicates») (keysOf st) (sized-stands .inside) (sized-room st sized) (st .html) (st .place))
+      step-keeps-held s (st .«check_duplicates») (keysOf st) sized-inside (st .html) (st .place)
+      (step-held s (st .«check_duplicates») (keysOf st) sized-inside (sized-room st sized) (st .html) (st .place))
 
-  left-stands : Stands s (left .keys) (left .place)
-  left-stands =
-      record { inside = kept .inside; stands = step-stands s (st .html) (st .«check_duplicates») (keysOf st) (st .place) (sized-stands .stands) }
+  left-good : goodOf s (left .keys) (left .place) ≡ true
+  unfolding stateGood
+  left-good =
+      parts-good s (left .keys) (left .place) (kept .inside)
+      (step-stands s (st .html) (st .«check_duplicates») (keysOf st) (st .place) (both (tableGood (length s) (st .starts) (st .ends) (st .count)) (placeGood s (st .place)) good .1))
 
   -- what `step_in` does on such tables
   module _ (r : Stepped) (starts ends : List ℕ) (e : taken r starts ends (st .count) ≡ stepIn s (st .html) (st .«check_duplicates») (keysLent (st .starts) (st .ends) (st .count)) (st .place)) where
@@ -68,11 +74,11 @@ module _ (s : List ℕ) (st : IterState) (sized : Sized st) (good : stateGood s 
     unfolding leaves keysOf
     sized-next o m =
         next-steps s st good (advanced o starts ends)
-        (room-made s (st .«check_duplicates») (keysOf st) (sized-stands .inside) (sized-room st sized) (st .html) (st .place) r o starts ends e m)
+        (room-made s (st .«check_duplicates») (keysOf st) sized-inside (sized-room st sized) (st .html) (st .place) r o starts ends e m)
 
     pub sized-never : r ≡ LendMore → ⊥
     unfolding keysOf
-    sized-never m = room-never s (st .«check_duplicates») (keysOf st) (sized-stands .inside) (sized-room st sized) (st .html) (st .place) r starts ends e m
+    sized-never m = room-never s (st .«check_duplicates») (keysOf st) sized-inside (sized-room st sized) (st .html) (st .place) r starts ends e m
 
 -- Refusal 7 leaves such tables all zero.
 pub sized-cleared : (s : List ℕ) (st : IterState) → Sized st → stateGood s st ≡ false → (starts ends : List ℕ) → starts ≡ replicate (length (st .starts)) 0 → ends ≡ replicate (length (st .ends)) 0 → leaves st (reading (found BadState Done) (keysLent starts ends 0)) ≡ nextOf s st
@@ -82,13 +88,9 @@ sized-cleared s st z bad starts ends a b =
     ∙ ap (λ (t : List ℕ). leaves st (reading (found BadState Done) (keysLent (replicate capacity 0) t 0))) (b ∙ ap (λ (n : ℕ). replicate n 0) (z .ends))
     ∙ next-bad s st bad
 
--- A state that stands is good.
-stands-good : (s : List ℕ) (keys : Keys) (place : Place) → Stands s keys place → goodOf s keys place ≡ true
-stands-good s keys place r = sym (and-on (in-table (length s) (keys .starts) (keys .ends) (keys .count) (r .inside)) refl) ∙ r .stands
-
-none-stands : (s : List ℕ) → Stands s noKeys Done
+none-good : (s : List ℕ) → goodOf s noKeys Done ≡ true
 unfolding noKeys placeGood
-none-stands s = record { inside = keys-none (replicate capacity 0) (replicate capacity 0) (length s); stands = refl }
+none-good s = parts-good s noKeys Done (keys-none (replicate capacity 0) (replicate capacity 0) (length s)) refl
 
 module _ (s : List ℕ) (st : IterState) (sized : Sized st) where
   -- the state after `next` is good, whatever it was before
@@ -96,8 +98,8 @@ module _ (s : List ℕ) (st : IterState) (sized : Sized st) where
   unfolding nextOf leaves stateGood badReading
   next-stays-good = by (stateGood s st) refl where
     by : (t : Bool) → stateGood s st ≡ t → stateGood s (leaves st (pick t (stepOf s (st .html) (st .«check_duplicates») (keysOf st) (st .place)) badReading) .state) ≡ true
-    by true g = stands-good s _ _ (left-stands s st sized g)
-    by false g = stands-good s noKeys Done (none-stands s)
+    by true g = left-good s st sized g
+    by false g = none-good s
 
   -- and has as many places
   pub next-sized : Sized (nextOf s st .state)

@@ -1,21 +1,19 @@
 -- What each definition of specs/Read and specs/Next is, for each way that the code can go: a law for each `return`.
 use Prim.Native.Nat.{ℕ, _+_, _≤_, _<_}
-use mathlib.Core.Path.{_≡_, refl, sym, ap, _∙_}
+use mathlib.Core.Path.{_≡_, refl, sym, _∙_}
 use mathlib.Core.Bool.{Bool, true, false}
 use mathlib.Core.List.{List}
 use lib.ListN.{length, getD}
 use lib.Dec.{eqb, ltb}
-use borrow.Author.Tests.{lt-ltb, le-ltb, le-leb, lt-leb, eq-eqb, ne-eqb, ltb-true, eqb-true}
+use borrow.Author.Tests.{lt-ltb, le-ltb, le-leb, lt-leb, eq-eqb, ne-eqb}
 use Rattle.scan.specs.First.{firstFrom}
 use Rattle.scan.specs.Bytes.{isSpace, notSpace, endsKey, isByte}
-use Rattle.scan.proofs.Laws.{hit}
-use Rattle.scan.proofs.Bytes.{both, eq-content}
 use Rattle.tag_step.specs.declared.Span.{Span}
 use Rattle.tag_step.specs.declared.Place.the-variants.{Done, Next, SkipValue, SkipEqValue}
 use Rattle.tag_step.specs.declared.Start.the-variants.{From, Ended}
 use Rattle.tag_step.specs.declared.KeyRead.the-variants.{NoKey, Bare, Valued}
 use Rattle.tag_step.specs.declared.Answer.the-variants.{Unquoted, ExpectedValue, UnquotedValue, ExpectedQuote}
-use Rattle.tag_step.specs.Read.{span, found, isAt, isQuote, skipTo, skipOf, skipEqIn, skipEqFrom, skipEqValueOf, recoverOf, keyEq, keyTo, keyFrom, keyAt, quoted, closedOf, quotedTo, quotedOf, unquotedTo, otherOf, valueBy, valueFrom, valueAt}
+use Rattle.tag_step.specs.Read.{span, found, isAt, isQuote, skipTo, skipOf, recoverOf, keyEq, keyTo, keyFrom, keyAt, quoted, closedOf, quotedTo, quotedOf, unquotedTo, otherOf, valueBy, valueFrom, valueAt}
 use Rattle.tag_step.specs.Next.{placeAt, placeGood}
 
 -- quotes
@@ -38,42 +36,6 @@ module _ (s : List ℕ) (o w : ℕ) (here : w ≡ firstFrom isSpace s o) where
   pub skip-ended : length s ≤ w → Ended ≡ skipOf s o
   unfolding skipOf skipTo
   skip-ended h = rw (sym here, le-ltb w (length s) h)
-
-module _ (s : List ℕ) (o x : ℕ) (here : x ≡ firstFrom notSpace s o) where
-  pub skip-eq-none : length s ≤ x → Ended ≡ skipEqValueOf s o
-  unfolding skipEqValueOf skipEqFrom
-  skip-eq-none h = rw (sym here, le-ltb x (length s) h)
-
-  module _ (in-tag : x < length s) where
-    skip-eq-is : skipEqValueOf s o ≡ skipEqIn s x (getD s x 0)
-    unfolding skipEqValueOf skipEqFrom
-    skip-eq-is = rw (sym here, lt-ltb x (length s) in-tag)
-
-    pub skip-eq-other : isQuote (getD s x 0) ≡ false → skipOf s x ≡ skipEqValueOf s o
-    unfolding skipEqIn
-    skip-eq-other q = sym (skip-eq-is ∙ rw q)
-
-    module _ (q : isQuote (getD s x 0) ≡ true) (e : ℕ) (b : e ≡ firstFrom (isByte (getD s x 0)) s (x + 1)) where
-      pub skip-eq-closed : e < length s → From e ≡ skipEqValueOf s o
-      unfolding skipEqIn skipTo
-      skip-eq-closed h = sym (skip-eq-is ∙ rw (q, sym b, lt-ltb e (length s) h))
-
-      pub skip-eq-open : length s ≤ e → Ended ≡ skipEqValueOf s o
-      unfolding skipEqIn skipTo
-      skip-eq-open h = sym (skip-eq-is ∙ rw (q, sym b, le-ltb e (length s) h))
-
--- at `=` there is no quote to go by
-eq-no-quote : isQuote 61 ≡ false
-unfolding isQuote
-eq-no-quote = refl
-
-pub skip-eq-plain : (s : List ℕ) (o : ℕ) → placeGood s (SkipEqValue o) ≡ true → skipEqValueOf s o ≡ skipOf s o
-unfolding placeGood isAt
-skip-eq-plain s o good =
-    let g = both (ltb o (length s)) (eqb (getD s o 0) 61) good in
-    let l : o < length s = ltb-true o (length s) (g .0) in
-    let e : getD s o 0 ≡ 61 = eqb-true (getD s o 0) 61 (g .1) in
-    sym (skip-eq-other s o o (sym (hit notSpace s o l (ap notSpace e ∙ eq-content))) l (ap isQuote e ∙ eq-no-quote))
 
 -- recoverOf
 

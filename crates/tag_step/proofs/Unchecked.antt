@@ -22,7 +22,7 @@ use Rattle.tag_step.specs.declared.Stepped.{Stepped}
 use Rattle.tag_step.specs.declared.Stepped.the-variants.{Made, LendMore}
 use Rattle.tag_step.specs.declared.Step.{Step}
 use Rattle.tag_step.specs.Read.{found, recoverOf, keyAt}
-use Rattle.tag_step.specs.Next.{Keys, Reading, Stands, reading, keysLent, advanced, checkOf, keptBy, bareBy, bareTo, bareOf, valuedBy, valuedTo, valuedOf, readKey, readAt, stepFrom, stepOf, placeGood, keysOf, lentState, stateGood, noKeys, leaves, nextOf, standing, uncheckedOf, opened}
+use Rattle.tag_step.specs.Next.{Keys, Reading, reading, keysLent, advanced, checkOf, keptBy, bareBy, bareTo, bareOf, valuedBy, valuedTo, valuedOf, readKey, readAt, stepFrom, stepOf, placeGood, keysOf, lentState, stateGood, noKeys, leaves, nextOf, standing, uncheckedOf, opened}
 use Rattle.tag_step.specs.Lent.{taken, stepIn}
 use Rattle.tag_step.specs.Run.{isEnd, consUnless, runLent, runFrom, answersFrom, answersOf}
 use Rattle.tag_step.proofs.Whole.{next-steps, recover-in}
@@ -92,9 +92,6 @@ module _ (s : List ℕ) (html : Bool) (place : Place) (stands : placeGood s plac
 
     no-room : KeyRoom false starts ends
     no-room = record { room = λ on. absurd (false≢true on) }
-
-    pub unchecked-asks : Stands s (keysLent starts ends 0) place
-    unchecked-asks = record { inside = none; stands = stands }
 
     module _ (r : Stepped) (starts' ends' : List ℕ) (e : taken r starts' ends' 0 ≡ stepIn s html false (keysLent starts ends 0) place) where
       pub unchecked-made : (o : Advance) → r ≡ Made o → found (o .answer) (o .place) ≡ uncheckedOf s html place

@@ -14,7 +14,7 @@ use Rattle.scan.proofs.Laws.{first, picks}
 use Rattle.scan.proofs.Bytes.{both}
 use Rattle.tag_keys.specs.declared.Checked.{Checked}
 use Rattle.tag_keys.specs.declared.Checked.the-variants.{Fresh, Same, Full}
-use Rattle.tag_keys.specs.Keys.{tableGood, checkedOf, writtenBy, countBy}
+use Rattle.tag_keys.specs.Keys.{KeysIn, tableGood, checkedOf, writtenBy, countBy}
 use Rattle.tag_keys.proofs.Laws.{table-in}
 use Rattle.tag_step.specs.declared.Span.{Span}
 use Rattle.tag_step.specs.declared.Place.{Place}
@@ -29,7 +29,7 @@ use Rattle.tag_step.specs.declared.Found.{Found}
 use Rattle.tag_step.specs.declared.Advance.{Advance}
 use Rattle.tag_step.specs.declared.IterState.{IterState}
 use Rattle.tag_step.specs.Read.{found, isAt, skipTo, skipOf, recoverOf, keyEq, keyTo, keyFrom, keyAt, valueAt}
-use Rattle.tag_step.specs.Next.{Keys, Reading, Stands, reading, keysLent, advanced, checkOf, keptBy, placeAt, bareBy, bareTo, bareOf, valuedBy, valuedTo, valuedOf, readKey, readAt, stepFrom, stepOf, placeGood, goodOf, keysOf, lentState, stateGood, badReading, leaves, nextOf}
+use Rattle.tag_step.specs.Next.{Keys, Reading, reading, keysLent, advanced, checkOf, keptBy, placeAt, bareBy, bareTo, bareOf, valuedBy, valuedTo, valuedOf, readKey, readAt, stepFrom, stepOf, placeGood, goodOf, keysOf, lentState, stateGood, badReading, leaves, nextOf}
 
 abbrev outcome : Answer → Place → ℕ → Advance
 outcome a p n = record { answer = a; place = p; count = n }
@@ -101,11 +101,11 @@ module _ (s starts ends : List ℕ) (count : ℕ) (place : Place) where
   pub good-place : tableGood (length s) starts ends count ≡ true → placeGood s place ≡ goodOf s (keysLent starts ends count) place
   good-place k = rw k
 
--- a good state stands, as `step_in` asks
-pub good-stands : (s : List ℕ) (keys : Keys) (place : Place) → goodOf s keys place ≡ true → Stands s keys place
-good-stands s keys place g =
-    let b = both (tableGood (length s) (keys .starts) (keys .ends) (keys .count)) (placeGood s place) g in
-    record { inside = table-in (length s) (keys .starts) (keys .ends) (keys .count) (b .0); stands = b .1 }
+-- the recorded keys of a good state lie in the tag, as `step_in` asks
+pub good-inside : (s : List ℕ) (keys : Keys) (place : Place) → goodOf s keys place ≡ true → KeysIn (keys .starts) (keys .ends) (keys .count) (length s)
+good-inside s keys place g =
+    table-in (length s) (keys .starts) (keys .ends) (keys .count)
+    (both (tableGood (length s) (keys .starts) (keys .ends) (keys .count)) (placeGood s place) g .0)
 
 -- `next`
 

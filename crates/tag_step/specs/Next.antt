@@ -1,7 +1,6 @@
 -- One step of the iterator: document 01, "Reading a tag" and "Numbers and what they leave". The parts of a step take the
 -- mode, the checks and the recorded keys, never the place; the state is built once, in `nextOf`.
 use Prim.Native.Nat.{ℕ}
-use mathlib.Core.Path.{_≡_}
 use mathlib.Core.Bool.{Bool, true, false, _&&_}
 use mathlib.Core.List.{List}
 use lib.ListN.{length, replicate}
@@ -9,7 +8,7 @@ use lib.Dec.{ltb}
 use Rattle.scan.specs.First.{pick}
 use Rattle.tag_keys.specs.declared.Checked.{Checked}
 use Rattle.tag_keys.specs.declared.Checked.the-variants.{Fresh, Same, Full}
-use Rattle.tag_keys.specs.Keys.{capacity, KeysIn, tableGood, checkedOf, writtenBy, countBy}
+use Rattle.tag_keys.specs.Keys.{capacity, tableGood, checkedOf, writtenBy, countBy}
 use Rattle.tag_step.specs.declared.Span.{Span}
 use Rattle.tag_step.specs.declared.Place.{Place}
 use Rattle.tag_step.specs.declared.Place.the-variants.{Done, Next, SkipValue, SkipEqValue}
@@ -140,11 +139,6 @@ goodOf s keys place = tableGood (length s) (keys .starts) (keys .ends) (keys .co
 
 unfoldable pub stateGood : List ℕ → IterState → Bool
 stateGood s st = goodOf s (keysLent (st .starts) (st .ends) (st .count)) (st .place)
-
--- A step on lent tables asks for what a good state has.
-pub record Stands (s : List ℕ) (keys : Keys) (place : Place) : Type 0 where
-  pub inside : KeysIn (keys .starts) (keys .ends) (keys .count) (length s)
-  pub stands : placeGood s place ≡ true
 
 -- no recorded keys, every place of the tables zero
 unfoldable pub noKeys : Keys

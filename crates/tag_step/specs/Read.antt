@@ -42,18 +42,6 @@ skipTo s w = pick (ltb w (length s)) (From w) Ended
 unfoldable pub skipOf : List ℕ → ℕ → Start
 skipOf s o = skipTo s (firstFrom isSpace s o)
 
--- The crate's `skip_eq_value`, at any place: from a quote at x, the first byte that is no whitespace, to the next quote of
--- its kind; from another byte as above. Where `=` stands at the place, x is the place itself, and there is no quote:
--- so the iterator's own places never come by it (`skip-eq-plain`, proofs/Paths).
-unfoldable pub skipEqIn : List ℕ → ℕ → ℕ → Start
-skipEqIn s x b = pick (isQuote b) (skipTo s (firstFrom (isByte b) s (x + 1))) (skipOf s x)
-
-unfoldable pub skipEqFrom : List ℕ → ℕ → Start
-skipEqFrom s x = pick (ltb x (length s)) (skipEqIn s x (getD s x 0)) Ended
-
-unfoldable pub skipEqValueOf : List ℕ → ℕ → Start
-skipEqValueOf s o = skipEqFrom s (firstFrom notSpace s o)
-
 -- From a next place reading goes on right there, unless it lies past the end; from done, nowhere.
 unfoldable pub recoverOf : List ℕ → Place → Start
 recoverOf s Done = Ended

@@ -12,8 +12,8 @@ ghost use mathlib.Core.Bool.{true};
 ghost use Prim.Native.Nat.{_+_, _^_, _<_, _≤_};
 ghost use lib.ListN.{length, replicate};
 ghost use Rattle.tag_step.specs.Numbers.{numberedStep};
-ghost use Rattle.tag_step.specs.Read.{isQuote, skipOf, skipEqValueOf, recoverOf, keyAt, closedOf, quotedOf, valueAt};
-ghost use Rattle.tag_step.specs.Next.{Stands, keysLent, lentState, advanced, leaves, placeAt, placeGood, goodOf, nextOf, uncheckedOf, opened, withChecks};
+ghost use Rattle.tag_step.specs.Read.{isQuote, skipOf, recoverOf, keyAt, closedOf, quotedOf, valueAt};
+ghost use Rattle.tag_step.specs.Next.{keysLent, lentState, advanced, leaves, placeAt, placeGood, goodOf, nextOf, uncheckedOf, opened, withChecks};
 ghost use Rattle.tag_step.specs.Lent.{taken, bareIn, valuedIn, stepIn};
 ghost use Rattle.tag_keys.specs.Keys.{capacity, KeysIn};
 use tag_keys::CAPACITY;
@@ -142,34 +142,14 @@ fn skip_value(tag: &[u8], offset: usize) -> Start
     Start::Ended
 }
 
-// Passes over what stands at `offset` after whitespace: `IterState::skip_eq_value`. From a quote it goes to the next
-// one of its kind; but what stands at a place of the iterator is the `=`, and that is no quote: so that search is the
-// plain one, and the fast one has one caller and is compiled into it.
+// Where the search for the next key begins, after what the last answer left: `IterState::recover`. From the `=` of a
+// duplicate the crate goes on by `skip_eq_value`, which looks for a quote first; since it finds the `=`, that is
+// `skip_value` (`dead-quotes` of crate `law_steps`), and quotes are not honoured:
 //
-//     key  =  "value"  next
-//          |        ^
-//     offset        not this: the answer is the whitespace after it
-fn skip_eq_value(tag: &[u8], offset: usize) -> Start
-    ensures { λ r. ⌜ r ≡ skipEqValueOf (now (tag .entry)) offset ⌝ }
-{
-    let x = scan::content_from(tag, offset);
-    if x >= tag.len() {
-        return Start::Ended;
-    }
-    let quote = tag[x];
-    if !is_quote(quote) {
-        return skip_value(tag, x);
-    }
-    let e = scan::byte_by_bytes(tag, x + 1, quote);
-    if e < tag.len() {
-        return Start::From(e);
-    }
-    Start::Ended
-}
-
-// Where the search for the next key begins, after what the last answer left: `IterState::recover`.
+//     key  ="a value"  next
+//          |  ^
+//     offset  the answer
 fn recover(tag: &[u8], place: Place) -> Start
-    requires { ⌜ placeGood (now tag) place ≡ true ⌝ }
     ensures { λ r. ⌜ r ≡ recoverOf (now (tag .entry)) place ⌝ }
 {
     match place {
@@ -181,7 +161,7 @@ fn recover(tag: &[u8], place: Place) -> Start
             Start::Ended
         }
         Place::SkipValue(offset) => skip_value(tag, offset),
-        Place::SkipEqValue(offset) => skip_eq_value(tag, offset),
+        Place::SkipEqValue(offset) => skip_value(tag, offset),
     }
 }
 
@@ -435,8 +415,8 @@ fn key_valued<'a>(
     }
 }
 
-// One step on lent tables of any length, of a state that is good: `IterState::next`. Nothing is copied, so whoever reads a
-// whole tag tests the state once and calls this.
+// One step on lent tables of any length whose recorded keys lie in the tag: `IterState::next`. Nothing is copied, so whoever
+// reads a whole tag tests the state once and calls this.
 pub fn step_in<'a>(
     tag: &[u8],
     starts: &'a mut [usize],
@@ -446,7 +426,7 @@ pub fn step_in<'a>(
     count: usize,
     place: Place,
 ) -> Stepped
-    requires { ⌜ Stands (now tag) (keysLent (now starts) (now ends) count) place ⌝ }
+    requires { ⌜ KeysIn (now starts) (now ends) count (length (now tag)) ⌝ }
     ensures { λ r. ⌜ taken r (now (starts .exit)) (now (ends .exit)) count ≡ stepIn (now (tag .entry)) html checks (keysLent (now (starts .entry)) (now (ends .entry)) count) place ⌝ }
 {
     let Start::From(from) = recover(tag, place) else {

@@ -4,7 +4,7 @@ use Prim.Native.Nat.{_≤_}
 use mathlib.Core.Path.{_≡_}
 use native.Mathlib.Omega.{arith}
 use Rattle.scope_table.proofs.Good.{Ready, ready}
-use Rattle.scope_change.proofs.Change.{k-within, level-done}
+use Rattle.scope_change.proofs.Change.{keep-two, k-within, level-done}
 use borrow.Author.Needs.{needs}
 use Rattle.scope_change.proofs.clear_above_in.Statement.{statement}
 use Rattle.scope_change.proofs.clear_above_in.Tie as tie
@@ -14,7 +14,10 @@ ok : (s : tie.Start) → Ready (s .args .text .now) (s .args .records .now) (s .
 ok s = ready (s .args .text .now) (s .args .records .now) (s .args .head) (s .pre)
 
 kept-requires : tie.Need-kept-requires
-kept-requires c κs = ok (c .before .before .before) .rows-lent
+kept-requires c κs =
+    let s = c .before .before .before in
+    let a = s .args in
+    (ok s .rows-lent, keep-two (a .text .now) (a .records .now) (a .head) (ok s .table) (a .to))
 
 text-end-requires : tie.Need-text-end-requires
 text-end-requires c κs = ok (c .before .before .before .before .before) .rows-lent

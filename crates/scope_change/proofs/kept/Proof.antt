@@ -4,7 +4,7 @@ use mathlib.Core.Path.{_≡_, refl, sym, _∙_}
 use native.Mathlib.Omega.{arith}
 use Rattle.scope_table.specs.Records.{recordAt}
 use Rattle.scope_change.specs.Change.{keptAt}
-use Rattle.scope_change.proofs.Change.{keep-hit, keep-miss, keep-none}
+use Rattle.scope_change.proofs.Change.{keep-hit, keep-miss, keep-within}
 use Rattle.scope_change.proofs.kept.Statement.{statement}
 use Rattle.scope_change.proofs.kept.Tie as tie
 
@@ -42,7 +42,7 @@ returns-2 : tie.Need-returns-2 Inv-loop μ-loop
 returns-2 c =
     let l = c .before .loop in
     let a = c .before .before .before .args in
-    sym (l .inv .1 ∙ keep-none (recordAt (a .records .now)) (a .level) (l .i) (omega arith))
+    omega (arith, l .inv .1, keep-within (recordAt (a .records .now)) (a .level) (l .i), c .before .before .before .pre .1)
 
 pub kept-spec : {M : Type 1} → statement M
 kept-spec =

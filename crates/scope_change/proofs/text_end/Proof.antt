@@ -1,27 +1,23 @@
 -- `scope_change::text_end` meets its contract.
 use mathlib.Core.Path.{_≡_, ap, _∙_}
 use native.Mathlib.Omega.{arith}
-use borrow.Author.Tests.{lt-ltb, le-ltb, eq-eqb, ne-eqb}
+use borrow.Author.Tests.{lt-ltb, le-ltb}
 use Rattle.scope_table.specs.declared.NamespaceBinding.{NamespaceBinding}
 use Rattle.scope_change.specs.Change.{endOf}
 use borrow.Author.Needs.{needs}
 use Rattle.scope_change.proofs.text_end.Statement.{statement}
 use Rattle.scope_change.proofs.text_end.Tie as tie
 
-returns : tie.Need-returns
-unfolding endOf
-returns c = rw (eq-eqb _ _ (c .if1 .taken))
-
 record-at-requires : tie.Need-record-at-requires
 record-at-requires c κs = omega arith
 
+returns : tie.Need-returns
+unfolding endOf
+returns c = ap (λ (b : NamespaceBinding). b .start) (c .record-at .ensures) ∙ rw (lt-ltb _ _ (c .before .if1 .taken))
+
 returns-2 : tie.Need-returns-2
 unfolding endOf
-returns-2 c = ap (λ (b : NamespaceBinding). b .start) (c .record-at .ensures) ∙ rw (ne-eqb _ _ (c .before .before .if1 .left), lt-ltb _ _ (c .before .if2 .taken))
-
-returns-3 : tie.Need-returns-3
-unfolding endOf
-returns-3 c = rw (ne-eqb _ _ (c .before .if1 .left), le-ltb _ _ (c .if2 .left))
+returns-2 c = rw (le-ltb _ _ (c .if1 .left))
 
 pub text-end-spec : {M : Type 1} → statement M
-text-end-spec = tie.close (tie.spec returns record-at-requires returns-2 returns-3)
+text-end-spec = tie.close (tie.spec record-at-requires returns returns-2)

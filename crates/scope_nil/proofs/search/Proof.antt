@@ -5,7 +5,7 @@ use mathlib.Core.Bool.{true}
 use borrow.Author.Needs.{needs}
 use Rattle.tag_step.specs.Next.{stateGood, lentState}
 use Rattle.tag_step.specs.Run.{isEnd}
-use Rattle.tag_step.proofs.Good.{Sized, sized-stands, sized-next, sized-never}
+use Rattle.tag_step.proofs.Good.{Sized, sized-inside, sized-next, sized-never}
 use Rattle.scope_table.specs.Table.{resolverOf}
 use Rattle.scope_nil.specs.Nil.{searched}
 use Rattle.scope_nil.proofs.Turns.{unread, search-ends, search-yes, search-on, no-end, says-by, lent-good, lent-sized, lent-falls}
@@ -32,7 +32,7 @@ step-in-requires : tie.Need-step-in-requires Inv-loop μ-loop
 step-in-requires c κs =
     let a = c .before .before .before .before .before .before .before .before .args in
     let l = c .before .before .loop in
-    sized-stands (a .tag .now) (lentState (l .stand) (a .at .html) (a .at .checks) (l .starts) (l .ends) (l .recorded)) (l .inv .1) (l .inv .0)
+    sized-inside (a .tag .now) (lentState (l .stand) (a .at .html) (a .at .checks) (l .starts) (l .ends) (l .recorded)) (l .inv .1) (l .inv .0)
 
 enum-known-step : tie.Need-enum-known-step Inv-loop μ-loop
 enum-known-step c = search needs

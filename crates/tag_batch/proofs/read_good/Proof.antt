@@ -7,7 +7,7 @@ use borrow.Author.Needs.{needs}
 use lib.ListN.{length}
 use Rattle.scan.proofs.Lists.{over-length}
 use Rattle.tag_step.specs.Next.{keysLent, stateGood, lentState}
-use Rattle.tag_step.proofs.Whole.{good-stands}
+use Rattle.tag_step.proofs.Whole.{good-inside}
 use Rattle.tag_batch.specs.Batch.{listed}
 use Rattle.tag_batch.proofs.Turns.{Turn, turn-first, turn-full, room-fits, code-end, code-other, goes-short, goes-end, goes-on, after-starts, after-ends}
 use Rattle.tag_batch.proofs.read_good.Statement.{statement}
@@ -34,7 +34,7 @@ sub-loop c = omega (arith, room-fits _ _ (c .loop .inv .1 .fits), c .loop .inv .
 
 step-in-requires : tie.Need-step-in-requires Inv-loop μ-loop
 unfolding stateGood
-step-in-requires c κs = good-stands (c .before .before .before .before .before .before .before .before .args .tag .now) (keysLent (c .before .before .before .loop .starts) (c .before .before .before .loop .ends) (c .before .before .before .loop .recorded)) (c .before .before .before .loop .stand) (c .before .before .before .loop .inv .1 .ripe .good)
+step-in-requires c κs = good-inside (c .before .before .before .before .before .before .before .before .args .tag .now) (keysLent (c .before .before .before .loop .starts) (c .before .before .before .loop .ends) (c .before .before .before .loop .recorded)) (c .before .before .before .loop .stand) (c .before .before .before .loop .inv .1 .ripe .good)
 
 enum-known-step : tie.Need-enum-known-step Inv-loop μ-loop
 enum-known-step c = search needs

@@ -2,8 +2,7 @@
 use mathlib.Core.Path.{sym, _∙_}
 use borrow.Author.Tests.{not-true, not-false}
 use Rattle.tag_step.specs.Next.{stateGood, lentState, leaves}
-use Rattle.tag_step.proofs.Whole.{good-stands}
-use Rattle.tag_step.proofs.Good.{Sized, sized-next, sized-never, sized-cleared}
+use Rattle.tag_step.proofs.Good.{Sized, sized-inside, sized-next, sized-never, sized-cleared}
 use borrow.Author.Needs.{needs}
 use Rattle.tag_step.proofs.next_in.Statement.{statement}
 use Rattle.tag_step.proofs.next_in.Tie as tie
@@ -39,7 +38,10 @@ returns c =
     sized-cleared (b .args .tag .now) _ (sized b) (sym (c .before .before .before .before .before .before .before .before .before .good-in .ensures) ∙ not-true _ (c .before .before .before .before .before .before .before .before .if1 .taken)) _ _ (c .before .before .before .before .before .before .clear .ensures) (c .before .before .clear2 .ensures)
 
 step-in-requires : tie.Need-step-in-requires
-step-in-requires c κs = good-stands _ _ _ (sym (c .before .before .before .good-in .ensures) ∙ not-false _ (c .before .before .if1 .left))
+unfolding stateGood
+step-in-requires c κs =
+    let b = c .before .before .before .before .before .before .before .before .before in
+    sized-inside (b .args .tag .now) _ (sized b) (sym (c .before .before .before .good-in .ensures) ∙ not-false _ (c .before .before .if1 .left))
 
 enum-known-made : tie.Need-enum-known-made
 enum-known-made c = search needs

@@ -1,9 +1,8 @@
--- `tag_step::recover` meets its contract: each kind of place has its law; the quotes of `skip_eq_value` fall away because `=` stands at the place.
+-- `tag_step::recover` meets its contract: a next place has its two laws, and both skips are `skip_value`.
 use mathlib.Core.Path.{sym, ap, _∙_}
 use borrow.Author.Needs.{needs}
-use Rattle.tag_step.specs.Next.{placeGood}
 use Rattle.tag_step.specs.Read.{recoverOf}
-use Rattle.tag_step.proofs.Paths.{next-from, next-ended, skip-eq-plain}
+use Rattle.tag_step.proofs.Paths.{next-from, next-ended}
 use Rattle.tag_step.proofs.recover.Statement.{statement}
 use Rattle.tag_step.proofs.recover.Tie as tie
 
@@ -25,8 +24,8 @@ skip-value-requires c κs = search needs
 enum-known-place-3 : tie.Need-enum-known-place-3
 enum-known-place-3 c = search needs
 
-skip-eq-value-requires : tie.Need-skip-eq-value-requires
-skip-eq-value-requires c κs = search needs
+skip-value-requires-2 : tie.Need-skip-value-requires-2
+skip-value-requires-2 c κs = search needs
 
 returns-2 : tie.Need-returns-2
 unfolding recoverOf
@@ -41,7 +40,7 @@ returns-4 c = c .skip-value .ensures ∙ ap (recoverOf _) (sym (c .before .befor
 
 returns-5 : tie.Need-returns-5
 unfolding recoverOf
-returns-5 c = c .skip-eq-value .ensures ∙ skip-eq-plain _ _ (ap (placeGood _) (sym (c .before .before .place3 .given .1)) ∙ c .before .before .before .before .before .pre) ∙ ap (recoverOf _) (sym (c .before .before .place3 .given .1))
+returns-5 c = c .skip-value2 .ensures ∙ ap (recoverOf _) (sym (c .before .before .place3 .given .1))
 
 pub recover-spec : {M : Type 1} → statement M
 recover-spec =
@@ -53,7 +52,7 @@ recover-spec =
     enum-known-place-2
     skip-value-requires
     enum-known-place-3
-    skip-eq-value-requires
+    skip-value-requires-2
     returns-2
     returns-3
     returns-4

@@ -24,7 +24,7 @@ enum-told : tie.Need-enum-told
 enum-told c = search needs
 
 returns : tie.Need-returns
-returns c = took-same _ _ (c .before .before .before .before .before .before .pre .inside) _ _ (step-ended _ _ _ _ _ (sym (c .before .before .recover .ensures) ∙ c .enum-told .given .1)) refl
+returns c = took-same _ _ (c .before .before .before .before .before .before .pre) _ _ (step-ended _ _ _ _ _ (sym (c .before .before .recover .ensures) ∙ c .enum-told .given .1)) refl
 
 read-key-requires : tie.Need-read-key-requires
 read-key-requires c κs = search needs
@@ -36,16 +36,16 @@ enum-known-key : tie.Need-enum-known-key
 enum-known-key c = search needs
 
 key-only-requires : tie.Need-key-only-requires
-key-only-requires c κs = let from = sym (c .before .before .before .before .before .before .before .before .before .recover .ensures) ∙ c .before .before .before .before .before .before .before .from .given .1 in let k = bare-by _ _ (starts-in _ _ _ from) _ _ (sym (c .before .before .before .before .before .read-key .ensures) ∙ c .before .before .before .key .given .1) in (c .before .before .before .before .before .before .before .before .before .before .before .before .before .pre .inside, (omega arith, omega arith))
+key-only-requires c κs = let from = sym (c .before .before .before .before .before .before .before .before .before .recover .ensures) ∙ c .before .before .before .before .before .before .before .from .given .1 in let k = bare-by _ _ (starts-in _ _ _ from) _ _ (sym (c .before .before .before .before .before .read-key .ensures) ∙ c .before .before .before .key .given .1) in (c .before .before .before .before .before .before .before .before .before .before .before .before .before .pre, (omega arith, omega arith))
 
 enum-known-key-2 : tie.Need-enum-known-key-2
 enum-known-key-2 c = search needs
 
 key-valued-requires : tie.Need-key-valued-requires
-key-valued-requires c κs = let from = sym (c .before .before .before .before .before .before .before .before .before .recover .ensures) ∙ c .before .before .before .before .before .before .before .from .given .1 in let k = valued-by _ _ (starts-in _ _ _ from) _ _ (sym (c .before .before .before .before .before .read-key .ensures) ∙ c .before .before .before .key2 .given .1) in (c .before .before .before .before .before .before .before .before .before .before .before .before .before .pre .inside, ((omega arith, omega arith), at-in _ _ _ (k .1)))
+key-valued-requires c κs = let from = sym (c .before .before .before .before .before .before .before .before .before .recover .ensures) ∙ c .before .before .before .before .before .before .before .from .given .1 in let k = valued-by _ _ (starts-in _ _ _ from) _ _ (sym (c .before .before .before .before .before .read-key .ensures) ∙ c .before .before .before .key2 .given .1) in (c .before .before .before .before .before .before .before .before .before .before .before .before .before .pre, ((omega arith, omega arith), at-in _ _ _ (k .1)))
 
 returns-2 : tie.Need-returns-2
-returns-2 c = let from = sym (c .before .before .before .before .before .before .recover .ensures) ∙ c .before .before .before .before .from .given .1 in took-same _ _ (c .before .before .before .before .before .before .before .before .before .before .pre .inside) _ _ (step-none _ _ _ _ _ _ from (sym (c .before .before .read-key .ensures) ∙ c .enum-told2 .given .1)) refl
+returns-2 c = let from = sym (c .before .before .before .before .before .before .recover .ensures) ∙ c .before .before .before .before .from .given .1 in took-same _ _ (c .before .before .before .before .before .before .before .before .before .before .pre) _ _ (step-none _ _ _ _ _ _ from (sym (c .before .before .read-key .ensures) ∙ c .enum-told2 .given .1)) refl
 
 same-length : tie.Need-same-length
 same-length c = search needs

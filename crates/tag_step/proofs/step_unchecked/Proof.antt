@@ -1,7 +1,8 @@
 -- `tag_step::step_unchecked` meets its contract: with checks off a step is the same on any tables, so none are given to it, and it
 -- lacks no place.
 use borrow.Author.Needs.{needs}
-use Rattle.tag_step.proofs.Unchecked.{unchecked-asks, unchecked-made, unchecked-never}
+use Rattle.tag_keys.proofs.Laws.{keys-none}
+use Rattle.tag_step.proofs.Unchecked.{unchecked-made, unchecked-never}
 use Rattle.tag_step.proofs.step_unchecked.Statement.{statement}
 use Rattle.tag_step.proofs.step_unchecked.Tie as tie
 
@@ -12,7 +13,7 @@ slice-aggregate-step-in-2 : tie.Need-slice-aggregate-step-in-2
 slice-aggregate-step-in-2 c = search needs
 
 step-in-requires : tie.Need-step-in-requires
-step-in-requires c κs = unchecked-asks _ (c .before .before .before .args .html) _ (c .before .before .before .pre) _ _
+step-in-requires c κs = keys-none _ _ _
 
 enum-known-step : tie.Need-enum-known-step
 enum-known-step c = search needs
