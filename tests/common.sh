@@ -11,6 +11,8 @@ work=$(mktemp -d) || exit 1
 trap 'rm -rf "$work"' EXIT
 # a test is about the library that is proved and built here
 unset MEZZULIDDA_LIB_DIR
+# the processor; no program is wanted for it, and nothing that whoever calls has set
+machine=${BASH_VERSINFO[5]%%-*}
 
 wrong=0
 say() {
@@ -67,6 +69,14 @@ need_library() {
     library=$("$root/library/build" 2> "$work/err") && return
     say "$(tail -n 1 "$work/err")"
     end
+}
+
+# The library that cargo finds by itself. One is kept for x86-64 alone: on another processor it is told of the one for this machine.
+need_kept() {
+    [ "$machine" != x86_64 ] || return 0
+    need_library
+    MEZZULIDDA_LIB_DIR=$(dirname "$library")
+    export MEZZULIDDA_LIB_DIR
 }
 
 # A command whose output is kept in $work/out, and shown with the words before it where it fails.

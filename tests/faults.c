@@ -8,7 +8,8 @@
  *   COUNT=1                        at the end standard error gets how often each was called
  *
  * exports.h has a line EXPORT(mz_F) for each. The return address is kept aside, so that arguments on the stack are where the
- * function looks for them, whatever it takes; it is for one thread, and for no export that calls another. */
+ * function looks for them, whatever it takes; it is for one thread, and for no export that calls another. For x86-64 and for
+ * aarch64, the same step by step. */
 #include <stdio.h>
 #include <stdlib.h>
 #include <string.h>
@@ -23,6 +24,8 @@ __attribute__((used)) void *back_to, *first, *second, *third, **pointed;
 #define EXPORT(function) __attribute__((used)) struct fault fault_##function = {0, 0, #function};
 #include "exports.h"
 #undef EXPORT
+
+#if defined __x86_64__
 
 __asm__(".text\n"
         "answered:\n" /* rcx has the fault */
@@ -57,21 +60,62 @@ __asm__(".text\n"
 #include "exports.h"
 #undef EXPORT
 
+#elif defined __aarch64__
+
+/* a number in memory, by way of x10, to a register and back */
+#define AT(name) " adrp x10, " name "\n add x10, x10, :lo12:" name "\n"
+#define GET(register, name) AT(name) " ldr " register ", [x10]\n"
+#define PUT(register, name) AT(name) " str " register ", [x10]\n"
+
+__asm__(".text\n"
+        "answered:\n" /* x9 has the fault */
+        " ldp x11, x12, [x9]\n"
+        " add x11, x11, #1\n"
+        " str x11, [x9]\n"
+        " cbz x12, 3f\n"
+        " cmp x11, x12\n"
+        " b.lt 3f\n"
+        GET("x11", "pointed")
+        " cbz x11, 1f\n"
+        GET("x12", "second")
+        " cbz x12, 3f\n"
+        " ldr x11, [x11]\n"
+        " ldrb w12, [x11]\n"
+        " eor w12, w12, #1\n"
+        " strb w12, [x11]\n"
+        " b 2f\n"
+        "1: eor x0, x0, #1\n"
+        "2: str xzr, [x9, #8]\n"
+        "3:" GET("x30", "back_to")
+        " ret\n");
+
+#define EXPORT(function)                                              \
+    __asm__(".globl " #function "\n" #function ":\n"                  \
+            PUT("x30", "back_to") PUT("x0", "first") PUT("x1", "second") PUT("x2", "third") \
+            " bl true_" #function "\n"                                \
+            AT("fault_" #function)                                    \
+            " mov x9, x10\n"                                          \
+            " b answered\n");
+#include "exports.h"
+#undef EXPORT
+
+#else
+#error "the wrappers are written for x86-64 and for aarch64"
+#endif
+
 #define EXPORT(function) &fault_##function,
 static struct fault *const faults[] = {
 #include "exports.h"
 };
 #define COUNT (sizeof faults / sizeof *faults)
 
-static void count(void) {
-    for (size_t k = 0; k < COUNT; k++)
+__attribute__((destructor)) static void count(void) {
+    for (size_t k = 0; getenv("COUNT") && k < COUNT; k++)
         fprintf(stderr, "%s %ld\n", faults[k]->name, faults[k]->calls);
 }
 
 __attribute__((constructor)) static void ask(void) {
     const char *name = getenv("WRONG"), *at = getenv("AT"), *what = getenv("WHAT");
-    if (getenv("COUNT"))
-        atexit(count);
     if (!name || !at || !what)
         return;
     pointed = !strcmp(what, "first") ? &first : !strcmp(what, "third") ? &third : NULL;

@@ -328,7 +328,12 @@ fn in_2_mb(read: impl FnOnce() -> usize + Send + 'static) -> usize {
 fn an_iterator_for_each_of_1500_levels() {
     let read = in_2_mb(|| read_within(1_500, " a='1' b='22'"));
     assert_eq!(read, 3 * 1_500);
-    let levels = if cfg!(debug_assertions) { 600 } else { 1_500 };
+    // without optimisation a level takes more, and on other processors more than on x86-64
+    let levels = match (cfg!(debug_assertions), cfg!(target_arch = "x86_64")) {
+        (false, _) => 1_500,
+        (true, true) => 600,
+        (true, false) => 500,
+    };
     let tag = BytesStart::from_content("t a='1' b='22'", 1);
     let read = in_2_mb(move || read_by_value(levels, &tag));
     assert_eq!(read, 3 * levels);
