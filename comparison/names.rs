@@ -9,7 +9,7 @@
 //! and `0`, then drawn ones that are nearly one of these.
 //!
 //! The verdict on a declaration has no counterpart in the crate. It is held against `verdict` below,
-//! a transcription of document 01's sentence.
+//! a transcription of document 01's sentence and of document 02's on the default namespace.
 //!
 //! Usage: `names [--short]`. Status 0 and counts where all agrees, status 1 and the first difference where it doesn't.
 
@@ -73,10 +73,13 @@ fn our_as_bool(value: &[u8]) -> usize {
 
 // Document 01, "Verdict on a declaration": no for the prefix `xmlns`; for `xml` to another URI; for
 // another prefix to the xml or xmlns URI; for a named prefix with an empty value; for an empty prefix
-// or one with a colon. Else yes. `None` is the default declaration.
+// or one with a colon. Document 02, request 4: no for a default declaration, which is `None`, with the
+// xml or xmlns URI. Else yes.
 fn verdict(prefix: Option<&[u8]>, value: &[u8]) -> bool {
-    let Some(prefix) = prefix else { return true };
     let reserved = value == XML_URI || value == XMLNS_URI;
+    let Some(prefix) = prefix else {
+        return !reserved;
+    };
     let no = prefix == b"xmlns"
         || (prefix == b"xml" && value != XML_URI)
         || (prefix != b"xml" && reserved)
@@ -159,7 +162,7 @@ fn compare(name: &[u8], tally: &mut Tally) -> Result<(), String> {
 
 // The verdict on a declaration of each telling value: the reserved URIs, and what is nearly one.
 fn compare_verdicts(name: &[u8], declared: Option<&[u8]>, tally: &mut Tally) -> Result<(), String> {
-    let values: [&[u8]; 10] = [
+    let values: [&[u8]; 13] = [
         b"",
         b"u",
         b"xml",
@@ -167,8 +170,11 @@ fn compare_verdicts(name: &[u8], declared: Option<&[u8]>, tally: &mut Tally) -> 
         XML_URI,
         XMLNS_URI,
         &XML_URI[1..],
+        &XML_URI[..35],
         &XMLNS_URI[..28],
         b"http://www.w3.org/XML/1998/namespacf",
+        b"http://www.w3.org/XML/1998/namespace/",
+        b"http://www.w3.org/2000/xmlnt/",
         b"http://www.w3.org/2000/xmlns//",
     ];
     for value in values {

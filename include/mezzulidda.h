@@ -55,7 +55,7 @@ bool mz_is_xml(const uint8_t *prefix, size_t prefix_len);
 bool mz_is_xmlns(const uint8_t *prefix, size_t prefix_len);
 
 /* Whether Namespaces in XML 1.0 allows the declaration that an attribute makes: 0 no, 1 yes, 2 it
- * declares nothing. */
+ * declares nothing. mz_add and mz_push accept more, as quick-xml does: a reserved URI as the default, say. */
 size_t mz_verdict(const uint8_t *name, size_t name_len, const uint8_t *value, size_t value_len);
 
 /* ---- The attributes of a tag ---- */

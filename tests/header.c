@@ -138,6 +138,9 @@ static void layout(void) {
 
 /* ---- Names ---- */
 
+#define XML_URI "http://www.w3.org/XML/1998/namespace"
+#define XMLNS_URI "http://www.w3.org/2000/xmlns/"
+
 static void names(void) {
     hold("mz_split", mz_split(BYTES("v:id")) == 1 && mz_split(BYTES("id")) == 2);
     hold("mz_declares", mz_declares(BYTES("xmlns")) == 1 && mz_declares(BYTES("xmlns:v")) == 2 &&
@@ -147,6 +150,12 @@ static void names(void) {
     hold("mz_verdict", mz_verdict(BYTES("xmlns:v"), BYTES("u")) == 1 &&
                            mz_verdict(BYTES("xmlns:v"), BYTES("")) == 0 &&
                            mz_verdict(BYTES("id"), BYTES("u")) == 2);
+#define DEFAULT(value) mz_verdict(BYTES("xmlns"), BYTES(value))
+    hold("mz_verdict: a default", DEFAULT("u") == 1 && DEFAULT("") == 1 && DEFAULT(XML_URI) == 0 && DEFAULT(XMLNS_URI) == 0 &&
+                                      DEFAULT(XML_URI "/") == 1 && DEFAULT(XMLNS_URI "/") == 1);
+    hold("mz_verdict: a byte less", DEFAULT("http://www.w3.org/XML/1998/namespac") == 1 && DEFAULT("http://www.w3.org/2000/xmlns") == 1);
+#undef DEFAULT
+    hold("mz_verdict: xml", mz_verdict(BYTES("xmlns:xml"), BYTES(XML_URI)) == 1 && mz_verdict(BYTES("xmlns:xml"), BYTES("u")) == 0);
     hold("mz_as_bool", mz_as_bool(BYTES("false")) == 0 && mz_as_bool(BYTES("1")) == 1 &&
                            mz_as_bool(BYTES("True")) == 2);
 }
@@ -301,9 +310,6 @@ static bool is_head(const struct mz_resolver *r, size_t used, size_t count, size
     return r->head[0] == used && r->head[1] == count && r->head[2] == level && r->head[3] == limit;
 }
 
-#define XML_URI "http://www.w3.org/XML/1998/namespace"
-#define XMLNS_URI "http://www.w3.org/2000/xmlns/"
-
 /* The names of a tag at once: each answer is what mz_resolve says of the name alone. */
 static void all_names(const struct mz_resolver *r) {
     const char *tag = "x p:x qq:x x";
@@ -430,6 +436,11 @@ static void scopes(void) {
         hold("a record beyond all capacity", mz_pop(MZ_PASS(*r)) == MZ_BAD_RESOLVER);
     }
     r = moved(other, FULL);
+    hold("mz_push: a reserved default", mz_push(MZ_PASS(*r), BYTES(" xmlns=\"" XMLNS_URI "\""), 0, d) == 0 && is_told(d, 0, 0));
+    hold("mz_resolve: a reserved default", mz_resolve(MZ_PASS(*r), BYTES("a"), true, d) == 1 && are(r->text, d, XMLNS_URI));
+    hold("mz_add: a reserved default", mz_add(MZ_PASS(*r), false, NULL, 0, BYTES(XML_URI), d) == 0 && is_told(d, 0, 0) &&
+                                           mz_resolve(MZ_PASS(*r), BYTES("a"), true, d) == 1 && are(r->text, d, XML_URI));
+    hold("mz_pop: a reserved default", mz_pop(MZ_PASS(*r)) == 0 && mz_resolve(MZ_PASS(*r), BYTES("a"), true, d) == 0);
     hold("mz_push: from far behind", mz_push(MZ_PASS(*r), BYTES(tag), SIZE_MAX, d) == 0 && r->head[2] == 1 && r->head[1] == 3);
 }
 

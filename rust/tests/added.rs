@@ -113,15 +113,26 @@ fn an_attribute_of_a_key_and_a_value() {
     }
 }
 
+const XML: &str = "http://www.w3.org/XML/1998/namespace";
+const XMLNS: &str = "http://www.w3.org/2000/xmlns/";
+
 #[test]
 fn verdicts() {
-    let xml = "http://www.w3.org/XML/1998/namespace";
     for (name, value, verdict) in [
         ("xmlns:v", "urn:v", Some(true)),
+        ("xmlns", "urn:v", Some(true)),
         ("xmlns", "", Some(true)),
-        ("xmlns:xml", xml, Some(true)),
+        ("xmlns", XML, Some(false)),
+        ("xmlns", XMLNS, Some(false)),
+        ("xmlns", &format!("{XML}/"), Some(true)),
+        ("xmlns", &format!("{XMLNS}/"), Some(true)),
+        ("xmlns", &XML[..XML.len() - 1], Some(true)),
+        ("xmlns", &XMLNS[..XMLNS.len() - 1], Some(true)),
+        ("xmlns:xml", XML, Some(true)),
+        ("xmlns:xml", XMLNS, Some(false)),
         ("xmlns:xml", "urn:v", Some(false)),
-        ("xmlns:v", xml, Some(false)),
+        ("xmlns:v", XML, Some(false)),
+        ("xmlns:v", XMLNS, Some(false)),
         ("xmlns:xmlns", "urn:v", Some(false)),
         ("xmlns:v", "", Some(false)),
         ("xmlns:", "urn:v", Some(false)),
@@ -129,6 +140,26 @@ fn verdicts() {
         ("id", "c-17", None),
     ] {
         assert_eq!(QName(name).verdict(value), verdict, "{name}={value}");
+    }
+}
+
+// The verdict says no, and the resolver goes by quick-xml.
+#[test]
+fn a_reserved_default_is_bound_all_the_same() {
+    for uri in [XML, XMLNS] {
+        let mut resolver = NamespaceResolver::default();
+        let tag = format!("t xmlns=\"{uri}\"");
+        resolver.push(&BytesStart::from_content(&*tag, 1)).unwrap();
+        let (bound, local) = resolver.resolve_element(QName("a"));
+        assert_eq!(bound, ResolveResult::Bound(Namespace(uri)));
+        assert_eq!(local.as_ref(), "a");
+        resolver.pop();
+        resolver
+            .add(PrefixDeclaration::Default, Namespace(uri))
+            .unwrap();
+        let (bound, _) = resolver.resolve_element(QName("a"));
+        assert_eq!(bound, ResolveResult::Bound(Namespace(uri)));
+        assert_eq!(QName("xmlns").verdict(uri), Some(false));
     }
 }
 

@@ -19,14 +19,15 @@ use Rattle.tag_parts.specs.Parts.{keyPart, valuePart}
 use Rattle.name.specs.Split.{colonAt, hasColon, colonOf, prefixOf, localAt, localOf}
 use Rattle.name.specs.Reserved.{xmlPrefix, xmlnsPrefix, xmlUri, xmlnsUri, isXml, isXmlns, isXmlUri, isXmlnsUri}
 use Rattle.name.specs.Bind.{reservedBind}
-use Rattle.name.specs.Declares.{opening, isNamed, declaresOf, declaredPrefix}
-use Rattle.name.specs.Verdict.{isEmpty, isOther, isRefused, verdictNamed, verdictOn, verdictOf, verdictNumber}
-use Rattle.name.specs.declared.Verdict.the-variants.{No}
+use Rattle.name.specs.Declares.{opening, isNamed, declaresOf, declaredPrefix, declaresNumber}
+use Rattle.name.specs.Verdict.{isEmpty, isOther, isRefused, verdictNamed, verdictDefault, verdictOn, verdictOf, verdictNumber}
+use Rattle.name.specs.declared.Verdict.the-variants.{Yes, No}
 use Rattle.name.proofs.Split.{split-joins, prefix-colon-free}
 use Rattle.name.proofs.Declared.{default-exactly, named-exactly, nothing-exactly}
-use Rattle.name.proofs.Verdicts.{isRefusal, yes-means, yes-binds}
+use Rattle.name.proofs.Verdicts.{isRefusal, yes-means, allowed-yes, yes-binds}
 use Rattle.law_wellformed.specs.Grammar.{each, some, isIn, oneOf, nameByte, Quote, double, quoteByte, valueByte, Piece, byte, pieceText, isPiece, valueText, arePieces, IsValue, Attribute, attributeThen, AttributeBy, attributesThen, bodyText, AttributesBy, Absent, Distinct}
-use Rattle.scope_table.specs.Lists.{allBelow, allZero}
+use Rattle.scope_table.specs.Lists.{lastBelow, allBelow, allZero}
+use Rattle.scope_table.specs.Records.{prefixIn}
 use Rattle.scope_table.specs.Table.{LIMIT, builtIn, levelBefore, isRecord, opensBuiltIn, isChain, isRising, isWithin, isClear, isTable, validOf, freshOf}
 use Rattle.scope_table.specs.Table as Table
 use Rattle.scope_table.specs.declared.NamespaceResolver.{NamespaceResolver}
@@ -34,7 +35,7 @@ use Rattle.scope_table.proofs.Lists.{and-left, and-right, and-take}
 use Rattle.scope_change.specs.Change.{boundOf, refusalOf, appendOf}
 use Rattle.scope_declare.specs.Declare.{namedOf, judgeOf, settleOf, declareOf, limitedOf}
 use Rattle.scope_push.specs.Push.{declarationOf, declarationThen, declarationsOf, tagAnswers, thenOf, declareAll, raisedOf, pushOf}
-use Rattle.scope_lookup.specs.Lookup.{resolvePrefixOf, resolveOf}
+use Rattle.scope_lookup.specs.Lookup.{hasPrefix, isDefault, valueOr, explicitOf, defaultOf, amongOf, resolvePrefixOf, resolveOf, uriPart}
 use Rattle.law_rows.specs.Seen.{Seen, bound, unbound, unknown, handedBack}
 use Rattle.law_chain.specs.Chain.{Tag, pushedOf, NoneRefused, NoneNo, FineTag, FineTags, orElse, givenBy, innermost, declaring, declaringDefault, prefixedBy, defaultBy, unprefixed, meantBy, meantOf}
 use Rattle.law_chain.specs.Plain.{isPlain, meaningOf}
@@ -104,7 +105,7 @@ module _ (name n v m w : String) where
       }
 
 pub chain-fine : FineTags chain
-unfolding FineTags some each nameByte valueByte quoteByte oneOf isIn isSpace sameBytes bytes bytesFrom verdictOf verdictOn verdictNamed isRefused isOther isEmpty hasColon colonAt firstFrom firstTo firstOf isByte declaresOf declaredPrefix isNamed opening isXml isXmlns isXmlUri isXmlnsUri xmlPrefix xmlnsPrefix xmlUri xmlnsUri
+unfolding FineTags some each nameByte valueByte quoteByte oneOf isIn isSpace sameBytes bytes bytesFrom verdictOf verdictOn verdictNamed verdictDefault isRefused isOther isEmpty hasColon colonAt firstFrom firstTo firstOf isByte declaresOf declaredPrefix isNamed opening isXml isXmlns isXmlUri isXmlnsUri xmlPrefix xmlnsPrefix xmlUri xmlnsUri
 chain-fine = (
   tag-fine "c" "xmlns" "" "xmlns:q" "z" refl refl refl refl refl 0 refl 0 refl,
   (
@@ -156,6 +157,34 @@ pub declares-instances : (bytes "xmlns" ≡ xmlnsPrefix) × (bytes "xmlns:p" ≡
 unfolding sameBytes bytesFrom bytes xmlnsPrefix isXmlns opening isNamed declaresOf declaredPrefix
 declares-instances = (default-exactly (bytes "xmlns") refl, named-exactly (bytes "xmlns:p") refl, nothing-exactly (bytes "a") refl .1)
 
-pub yes-instance : (isXmlUri (bytes "v") ≡ false) × (isRefusal (reservedBind (bytes "p") (bytes "v")) ≡ false)
-unfolding firstOf firstTo firstFrom isByte sameBytes bytesFrom bytes xmlPrefix xmlnsPrefix xmlUri xmlnsUri isXml isXmlns isXmlUri isXmlnsUri colonAt hasColon isEmpty isOther isRefused verdictNamed
-yes-instance = (yes-means (bytes "p") (bytes "v") refl .other-uri refl .0, yes-binds (bytes "p") (bytes "v") refl)
+pub yes-instance : (isXmlUri (bytes "v") ≡ false) × (isXmlnsUri (bytes "u") ≡ false) × (isRefusal (reservedBind (bytes "p") (bytes "v")) ≡ false)
+unfolding firstOf firstTo firstFrom isByte sameBytes bytesFrom bytes xmlPrefix xmlnsPrefix xmlUri xmlnsUri isXml isXmlns isXmlUri isXmlnsUri colonAt hasColon isEmpty isOther isRefused verdictNamed verdictDefault verdictOn verdictOf opening isNamed declaresOf declaredPrefix
+yes-instance = (
+  yes-means (bytes "xmlns:p") (bytes "v") refl .named refl .other-uri refl .0,
+  yes-means (bytes "xmlns") (bytes "u") refl .default-uri refl .1,
+  yes-binds (bytes "p") (bytes "v") refl,
+)
+
+-- the innermost tag's default, which has no bytes
+pub allowed-instance : verdictOf (bytes "xmlns") [] ≡ Yes
+unfolding sameBytes bytesFrom bytes xmlnsPrefix xmlUri xmlnsUri isXmlns isXmlUri isXmlnsUri opening isNamed declaresOf
+allowed-instance =
+    allowed-yes (bytes "xmlns") []
+    (record {
+      declares = λ d. omega (arith, ap declaresNumber d);
+      default-uri = λ d. (refl, refl);
+      named = λ d. absurd (omega (arith, ap declaresNumber d));
+    })
+
+-- <a xmlns="http://www.w3.org/2000/xmlns/" id="1">
+abbrev reserved : List Tag
+reserved = tag "a" "xmlns" "http://www.w3.org/2000/xmlns/" "id" "1" ∷ []
+
+abbrev within : NamespaceResolver
+within = pushedOf LIMIT reserved .resolver
+
+-- The verdict on that default is no, so that the tag is none of those that the theorem speaks of. It is pushed all the same, as by
+-- the crate, and `a` is bound to that URI.
+pub reserved-default-example : (FineTags reserved → ⊥) × (NoneRefused LIMIT reserved) × (handedBack within (bytes "a") (resolveOf (bytes "a") true within) ≡ bound xmlnsUri)
+unfolding FineTags NoneNo verdictOf verdictOn verdictDefault NoneRefused pushedOf bodyText attributesThen attributeThen quoteByte firstOf firstTo firstFrom isSpace notSpace endsKey isByte part sameBytes bytesFrom bytes keyGood keyBad countGood tableGood nameAt sameKey oldestOf earlierOf checkedBy checkedOf writtenBy countBy isAt isQuote skipTo skipOf recoverOf keyEq keyTo keyFrom keyAt quoted closedOf quotedTo quotedOf unquotedTo otherOf valueBy valueFrom valueAt checkOf keptBy placeAt bareBy bareTo bareOf valuedBy valuedTo valuedOf readKey readAt stepFrom stepOf placeGood keysOf stateGood noKeys badReading leaves nextOf opened isEnd consUnless runOf answersOf inside keyPart valuePart xmlPrefix xmlnsPrefix xmlUri xmlnsUri isXml isXmlns isXmlUri isXmlnsUri reservedBind opening isNamed declaresOf declaredPrefix allBelow allZero over builtIn Table.textOf levelBefore isRecord opensBuiltIn isChain isRising isWithin isClear isTable validOf freshOf boundOf refusalOf appendOf namedOf judgeOf settleOf declareOf limitedOf declarationOf declarationThen declarationsOf tagAnswers thenOf declareAll raisedOf pushOf colonAt hasColon prefixOf lastBelow prefixIn hasPrefix isDefault valueOr explicitOf defaultOf amongOf resolvePrefixOf resolveOf uriPart handedBack
+reserved-default-example = (λ fine. fine .0 .verdicts .0 refl, (refl, tt), refl)

@@ -20,7 +20,7 @@ use Rattle.name.specs.declared.PrefixDeclaration.{PrefixDeclaration}
 use Rattle.name.specs.declared.PrefixDeclaration.the-variants.{Nothing, Default, Named}
 use Rattle.name.specs.declared.Verdict.the-variants.{No}
 use Rattle.name.proofs.Declared.{xml-eq, xml-uri-eq, default-exactly, named-exactly, nothing-exactly}
-use Rattle.name.proofs.Verdicts.{Allowed, yes-means, named-verdict, bind-own, bind-fine}
+use Rattle.name.proofs.Verdicts.{Allowed, named-means, named-verdict, bind-own, bind-fine}
 use Rattle.tag_step.specs.declared.Span.{Span}
 use Rattle.tag_step.specs.declared.Answer.{Answer}
 use Rattle.tag_step.specs.Read.{span}
@@ -102,7 +102,7 @@ append-holds x bs p v h =
 pub allowed : (key value : List ℕ) → declaresOf key ≡ Named → (verdictOf key value ≡ No → ⊥) → Allowed (declaredPrefix key) value
 allowed key value d n = by (verdictNamed (declaredPrefix key) value) refl where
   by : (t : Bool) → verdictNamed (declaredPrefix key) value ≡ t → Allowed (declaredPrefix key) value
-  by true e = yes-means (declaredPrefix key) value e
+  by true e = named-means (declaredPrefix key) value e
   by false e = absurd (n (sym (named-verdict key value (declaredPrefix key) d refl e)))
 
 pick-given : (t : Bool) (v : List ℕ) (old : Stated) → pick t (gives v) old ≡ orElse (pick t (gives v) nowhere) old

@@ -57,6 +57,7 @@ use Rattle.name.proofs.as_namespace_binding as name·as-namespace-binding
 use Rattle.name.proofs.declared_prefix as name·declared-prefix
 use Rattle.name.proofs.check_named as name·check-named
 use Rattle.name.proofs.verdict_named as name·verdict-named
+use Rattle.name.proofs.verdict_default as name·verdict-default
 use Rattle.name.proofs.verdict_of as name·verdict-of
 use Rattle.tag_keys.proofs.keys_good as tag-keys·keys-good
 use Rattle.tag_keys.proofs.holds as tag-keys·holds
@@ -181,6 +182,9 @@ module _ {M : Type 1} (𝓤 : URA M) (H : Heap 𝓤) (A : Atoms 𝓤) (mem : Mem
 
   pub name-verdict-named : Settled 𝓤 name·verdict-named.ended (name·verdict-named.clauses 𝓤 H A mem run)
   name-verdict-named κs a g y z = alone 𝓤 _ y z refl
+
+  pub name-verdict-default : Settled 𝓤 name·verdict-default.ended (name·verdict-default.clauses 𝓤 H A mem run)
+  name-verdict-default κs a g y z = alone 𝓤 _ y z refl
 
   pub name-verdict-of : Settled 𝓤 name·verdict-of.ended (name·verdict-of.clauses 𝓤 H A mem run)
   name-verdict-of κs a g y z = alone 𝓤 _ y z refl

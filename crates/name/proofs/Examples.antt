@@ -1,5 +1,5 @@
--- Worked examples, as two tables that antt computes: how names split and what they declare, and what is said of
--- declarations.
+-- Worked examples, as tables that antt computes: how names split and what they declare, and what is said of declarations, of
+-- default ones by their values alone.
 use Prim.Native.Nat.{ℕ}
 use Prim.Native.String.{String}
 use mathlib.Core.Path.{_≡_, refl}
@@ -10,7 +10,7 @@ use Rattle.name.specs.Split.{colonAt, hasColon, colonOf, prefixOf, local
 use Rattle.name.specs.Reserved.{xmlPrefix, xmlnsPrefix, xmlUri, xmlnsUri, isXml, isXmlns, isXmlUri, isXmlnsUri}
 use Rattle.name.specs.Declares.{opening, isNamed, declaresOf, declaredPrefix}
 use Rattle.name.specs.Bind.{reservedBind}
-use Rattle.name.specs.Verdict.{isEmpty, isOther, isRefused, verdictNamed, verdictOn, verdictOf}
+use Rattle.name.specs.Verdict.{isEmpty, isOther, isRefused, verdictNamed, verdictDefault, verdictOn, verdictOf}
 use Rattle.name.specs.declared.Colon.{Colon}
 use Rattle.name.specs.declared.Colon.the-variants.{At, Nowhere}
 use Rattle.name.specs.declared.PrefixDeclaration.{PrefixDeclaration}
@@ -97,5 +97,25 @@ pub declarations-judged :
     ∷ is Yes Fine
     ∷ is NoDeclaration Fine
     ∷ []
-unfolding verdictOf verdictOn verdictNamed isRefused isOther isEmpty reservedBind hasColon colonAt declaresOf declaredPrefix isNamed opening isXml isXmlns isXmlUri isXmlnsUri xmlPrefix xmlnsPrefix xmlUri xmlnsUri firstFrom firstTo firstOf isByte sameBytes bytes bytesFrom
+unfolding verdictOf verdictOn verdictNamed verdictDefault isRefused isOther isEmpty reservedBind hasColon colonAt declaresOf declaredPrefix isNamed opening isXml isXmlns isXmlUri isXmlnsUri xmlPrefix xmlnsPrefix xmlUri xmlnsUri firstFrom firstTo firstOf isByte sameBytes bytes bytesFrom
 declarations-judged = refl
+
+-- the verdict on a default declaration with this value
+abbrev defaultVerdict : String → Verdict
+defaultVerdict value = verdictOf (bytes "xmlns") (bytes value)
+
+-- Both reserved URIs are refused, and nothing else: not with a byte more, not with one less, not the empty value.
+pub defaults-judged :
+    map defaultVerdict
+    (""
+    ∷ "u"
+    ∷ "http://www.w3.org/XML/1998/namespace"
+    ∷ "http://www.w3.org/XML/1998/namespace/"
+    ∷ "http://www.w3.org/XML/1998/namespac"
+    ∷ "http://www.w3.org/2000/xmlns/"
+    ∷ "http://www.w3.org/2000/xmlns//"
+    ∷ "http://www.w3.org/2000/xmlns"
+    ∷ [])
+    ≡ Yes ∷ Yes ∷ No ∷ Yes ∷ Yes ∷ No ∷ Yes ∷ Yes ∷ []
+unfolding verdictOf verdictOn verdictDefault isEmpty declaresOf declaredPrefix isNamed opening isXmlns isXmlUri isXmlnsUri xmlnsPrefix xmlUri xmlnsUri sameBytes bytes bytesFrom
+defaults-judged = refl

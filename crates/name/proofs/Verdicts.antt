@@ -1,5 +1,5 @@
--- The laws of binding a named prefix and of the verdict, by cases on the tests; and that a yes means that none of the
--- refusals 12 to 15 comes.
+-- The laws of binding a named prefix and of the verdict, by cases on the tests; what a yes means, clause by clause; and that
+-- none of the refusals 12 to 15 comes then.
 use Prim.Native.Nat.{ℕ}
 use mathlib.Core.Path.{_≡_, refl, sym, ap, _∙_}
 use mathlib.Core.Bool.{Bool, true, false, not, _&&_, _||_, false≢true}
@@ -18,10 +18,11 @@ use Rattle.name.specs.Split.{hasColon, colonAt}
 use Rattle.name.specs.Reserved.{xmlPrefix, xmlnsPrefix, xmlUri, xmlnsUri, isXml, isXmlns, isXmlUri, isXmlnsUri}
 use Rattle.name.specs.Bind.{reservedBind, namedNumbers, numberOf}
 use Rattle.name.specs.Declares.{declaresOf, declaredPrefix}
-use Rattle.name.specs.Verdict.{isEmpty, isOther, isRefused, verdictNamed, verdictOn, verdictOf, verdictNumber}
+use Rattle.name.specs.Verdict.{isEmpty, isOther, isRefused, verdictNamed, verdictDefault, verdictOn, verdictOf, verdictNumber}
 use Rattle.name.specs.declared.NamedCheck.{NamedCheck}
 use Rattle.name.specs.declared.NamedCheck.the-variants.{Fine, AddsNothing, InvalidXmlPrefixBind, InvalidXmlnsPrefixBind, InvalidPrefixForXml, InvalidPrefixForXmlns}
-use Rattle.name.specs.declared.PrefixDeclaration.the-variants.{Named}
+use Rattle.name.specs.declared.PrefixDeclaration.{PrefixDeclaration}
+use Rattle.name.specs.declared.PrefixDeclaration.the-variants.{Nothing, Default, Named}
 use Rattle.name.specs.declared.Verdict.{Verdict}
 use Rattle.name.specs.declared.Verdict.the-variants.{Yes, No, NoDeclaration}
 use Rattle.name.proofs.Declared.{xml-eq, xml-uri-eq}
@@ -136,6 +137,25 @@ four-refusals InvalidXmlnsPrefixBind k = refl
 four-refusals InvalidPrefixForXml k = refl
 four-refusals InvalidPrefixForXmlns k = refl
 
+-- Of a default declaration the two URIs decide.
+pub default-xml : (value : List ℕ) → isXmlUri value ≡ true → false ≡ verdictDefault value
+unfolding verdictDefault
+default-xml value u = rw u
+
+pub default-xmlns : (value : List ℕ) → isXmlUri value ≡ false → {t : Bool} → isXmlnsUri value ≡ t → not t ≡ verdictDefault value
+unfolding verdictDefault
+default-xmlns value u w = rw (u, w)
+
+-- a name that declares nothing has no verdict
+pub nothing-verdict : (name value : List ℕ) → declaresOf name ≡ Nothing → NoDeclaration ≡ verdictOf name value
+unfolding verdictOf verdictOn
+nothing-verdict name value d = rw d
+
+-- the verdict on a default declaration is that on its value
+pub default-verdict : (name value : List ℕ) → declaresOf name ≡ Default → {t : Bool} → verdictDefault value ≡ t → pick t Yes No ≡ verdictOf name value
+unfolding verdictOf verdictOn
+default-verdict name value d v = rw (d, v)
+
 -- the verdict on a named declaration is that on its prefix and value
 pub named-verdict : (name value prefix : List ℕ) → declaresOf name ≡ Named → prefix ≡ declaredPrefix name → {t : Bool} → verdictNamed prefix value ≡ t → pick t Yes No ≡ verdictOf name value
 unfolding verdictOf verdictOn
@@ -163,7 +183,7 @@ named-back InvalidPrefixForXmlns = refl
 pub named-apart : (a b : NamedCheck) → namedNumbers a ≡ namedNumbers b → a ≡ b
 named-apart a b e = sym (named-back a) ∙ ap namedBy e ∙ named-back b
 
--- Each clause of the verdict, where it is a yes.
+-- Each clause of the verdict on a named declaration, where it is a yes.
 pub record Allowed (prefix value : List ℕ) : Type 0 where
   pub not-xmlns : isXmlns prefix ≡ false
   pub own-uri : isXml prefix ≡ true → isXmlUri value ≡ true
@@ -171,6 +191,13 @@ pub record Allowed (prefix value : List ℕ) : Type 0 where
   pub value-there : isEmpty value ≡ false
   pub prefix-there : isEmpty prefix ≡ false
   pub colon-free : hasColon prefix ≡ false
+
+-- And on an attribute, by what its name declares. It declares something; as a default it is neither reserved URI; as a named
+-- declaration it passes the clauses above.
+pub record AllowedDeclaration (name value : List ℕ) : Type 0 where
+  pub declares : declaresOf name ≡ Nothing → ⊥
+  pub default-uri : declaresOf name ≡ Default → (isXmlUri value ≡ false) × (isXmlnsUri value ≡ false)
+  pub named : declaresOf name ≡ Named → Allowed (declaredPrefix name) value
 
 neither : (a b : Bool) → not (a || b) ≡ true → (a ≡ false) × (not b ≡ true)
 neither true b h = absurd (false≢true h)
@@ -180,10 +207,10 @@ not-both : (a b : Bool) → (a && b) ≡ false → a ≡ true → b ≡ false
 not-both true b h e = h
 not-both false b h e = absurd (false≢true e)
 
--- A yes says that every clause of the rule passes.
-pub yes-means : (prefix value : List ℕ) → verdictNamed prefix value ≡ true → Allowed prefix value
+-- A yes says that every clause passes, of a named declaration
+pub named-means : (prefix value : List ℕ) → verdictNamed prefix value ≡ true → Allowed prefix value
 unfolding verdictNamed isRefused
-yes-means prefix value h =
+named-means prefix value h =
     let a = neither (isXmlns prefix) _ h in
     let b = neither (isXml prefix && not (isXmlUri value)) _ (a .1) in
     let c = neither (isOther prefix && (isXmlUri value || isXmlnsUri value)) _ (b .1) in
@@ -197,6 +224,39 @@ yes-means prefix value h =
       prefix-there = e .0;
       colon-free = not-true (hasColon prefix) (e .1);
     }
+
+pick-yes : (t : Bool) → pick t Yes No ≡ Yes → t ≡ true
+pick-yes true h = refl
+pick-yes false h = absurd (omega (arith, ap verdictNumber h))
+
+-- and of any attribute.
+pub yes-means : (name value : List ℕ) → verdictOf name value ≡ Yes → AllowedDeclaration name value
+unfolding verdictDefault
+yes-means name value h =
+    record {
+      declares = λ d. omega (arith, ap verdictNumber (nothing-verdict name value d ∙ h));
+      default-uri = λ d. both-false (isXmlUri value) (isXmlnsUri value) (not-true (isXmlUri value || isXmlnsUri value) (pick-yes (verdictDefault value) (default-verdict name value d refl ∙ h)));
+      named = λ d. named-means (declaredPrefix name) value (pick-yes (verdictNamed (declaredPrefix name) value) (named-verdict name value (declaredPrefix name) d refl refl ∙ h));
+    }
+
+allowed-named : (prefix value : List ℕ) → Allowed prefix value → verdictNamed prefix value ≡ true
+unfolding verdictNamed isRefused isOther
+allowed-named prefix value a = by (isXml prefix) refl where
+  by : (t : Bool) → isXml prefix ≡ t → verdictNamed prefix value ≡ true
+  by true e = rw (a .not-xmlns, e, a .own-uri e, a .value-there, a .prefix-there, a .colon-free)
+  by false e =
+      let u = a .other-uri (rw (e, a .not-xmlns)) in
+      rw (a .not-xmlns, e, u .0, u .1, a .value-there, a .prefix-there, a .colon-free)
+
+-- Where every clause passes, it is a yes, so that nothing else is refused.
+pub allowed-yes : (name value : List ℕ) → AllowedDeclaration name value → verdictOf name value ≡ Yes
+allowed-yes name value a = by (declaresOf name) refl where
+  by : (d : PrefixDeclaration) → declaresOf name ≡ d → verdictOf name value ≡ Yes
+  by Nothing e = absurd (a .declares e)
+  by Default e =
+      let u = a .default-uri e in
+      sym (default-verdict name value e (sym (default-xmlns value (u .0) (u .1))))
+  by Named e = sym (named-verdict name value (declaredPrefix name) e refl (allowed-named (declaredPrefix name) value (a .named e)))
 
 -- Where the verdict is yes, none of the refusals 12 to 15 comes.
 pub yes-binds : (prefix value : List ℕ) → verdictNamed prefix value ≡ true → isRefusal (reservedBind prefix value) ≡ false

@@ -34,10 +34,14 @@ isRefused prefix value =
 unfoldable pub verdictNamed : (prefix value : List ℕ) → Bool
 verdictNamed prefix value = not (isRefused prefix value)
 
--- A default declaration has no prefix, so none of this refuses it.
+-- A default declaration has no prefix. It is refused for the xml and for the xmlns URI, neither of which is to be declared as the
+-- default namespace (document 02, request 4). Else yes: an empty value, too, which takes the default away.
+unfoldable pub verdictDefault : (value : List ℕ) → Bool
+verdictDefault value = not (isXmlUri value || isXmlnsUri value)
+
 unfoldable pub verdictOn : PrefixDeclaration → (prefix value : List ℕ) → Verdict
 verdictOn Nothing prefix value = NoDeclaration
-verdictOn Default prefix value = Yes
+verdictOn Default prefix value = pick (verdictDefault value) Yes No
 verdictOn Named prefix value = pick (verdictNamed prefix value) Yes No
 
 -- the verdict on an attribute, by its whole name

@@ -8,7 +8,7 @@ ghost use Rattle.name.specs.Split.{colonAt, colonOf, prefixOf, localOf, 
 ghost use Rattle.name.specs.Reserved.{isXml, isXmlns, isXmlUri, isXmlnsUri};
 ghost use Rattle.name.specs.Declares.{declaresOf, declaresNumber, declaredPrefix};
 ghost use Rattle.name.specs.Bind.{reservedBind, namedNumbers};
-ghost use Rattle.name.specs.Verdict.{verdictNamed, verdictOf, verdictNumber};
+ghost use Rattle.name.specs.Verdict.{verdictNamed, verdictDefault, verdictOf, verdictNumber};
 
 // Where the first colon of a name is. `:a` has one at 0, so its prefix is there and empty; `a` has none, and no prefix.
 pub enum Colon {
@@ -266,15 +266,29 @@ pub fn verdict_named(prefix: &[u8], value: &[u8]) -> bool
     true
 }
 
-// The same for an attribute, by its whole name: yes for each default declaration, and `NoDeclaration` for a name that
-// declares nothing.
+// Whether Namespaces 1.0 allows a value as the default namespace: every value but the two reserved URIs.
+pub fn verdict_default(value: &[u8]) -> bool
+    ensures { λ r. ⌜ r ≡ verdictDefault (now (value .entry)) ⌝ }
+{
+    if is_xml_uri(value) {
+        return false;
+    }
+    !is_xmlns_uri(value)
+}
+
+// The verdict on an attribute, by its whole name: `NoDeclaration` for one that declares nothing.
 pub fn verdict_of(name: &[u8], value: &[u8]) -> Verdict
     ensures { λ r. ⌜ r ≡ verdictOf (now (name .entry)) (now (value .entry)) ⌝ }
 {
     let declares = as_namespace_binding(name);
     match declares {
         PrefixDeclaration::Nothing => return Verdict::NoDeclaration,
-        PrefixDeclaration::Default => return Verdict::Yes,
+        PrefixDeclaration::Default => {
+            if verdict_default(value) {
+                return Verdict::Yes;
+            }
+            return Verdict::No;
+        }
         PrefixDeclaration::Named => {}
     }
     if verdict_named(declared_prefix(name), value) {

@@ -184,6 +184,8 @@ impl<'a> QName<'a> {
     /// # use mezzulidda::name::QName;
     /// assert_eq!(QName("xmlns:v").verdict("urn:volume"), Some(true));
     /// assert_eq!(QName("xmlns:v").verdict(""), Some(false));
+    /// assert_eq!(QName("xmlns").verdict(""), Some(true));
+    /// assert_eq!(QName("xmlns").verdict("http://www.w3.org/2000/xmlns/"), Some(false));
     /// assert_eq!(QName("id").verdict("c-17"), None);
     /// ```
     pub fn verdict(&self, value: &str) -> Option<bool> {
