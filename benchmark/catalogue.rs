@@ -1,6 +1,7 @@
 //! Reads a catalogue of 100,000 tags through the Rust crate and through quick-xml's own, checks on: one
-//! process, the same tags, the same loop, both built for release. First the attributes alone, then with their
-//! namespaces: each tag is pushed, its name and those of its attributes are resolved, and it is popped.
+//! process, the same tags, the same loop, both built for release. First the attributes alone, then those of tags that
+//! have 700, then with their namespaces: each tag is pushed, its name and those of its attributes are resolved, and it
+//! is popped.
 //!
 //! The catalogue is read in parts, and on each of them the ways take turns (turns.rs).
 //!
@@ -18,6 +19,9 @@ use turns::{fastest_of, none_missed};
 
 const TAGS: usize = 100_000;
 const PART: usize = 500;
+/// Tags of so many attributes, and so many of them.
+const WIDE: usize = 700;
+const WIDE_TAGS: usize = 40;
 /// Rounds on each part.
 const PART_ROUNDS: usize = 40;
 
@@ -39,6 +43,14 @@ fn catalogue() -> Vec<String> {
                 digits()
             )
         })
+        .collect()
+}
+
+/// Tags of many attributes, whose keys an iterator has no room for inside.
+fn wide() -> Vec<String> {
+    let attributes = |tag: usize| (0..WIDE).map(move |n| format!(" a{n}=\"{}\"", tag + n));
+    (0..WIDE_TAGS)
+        .map(|tag| format!("chunk{}", attributes(tag).collect::<String>()))
         .collect()
 }
 
@@ -167,8 +179,16 @@ type Way = (&'static str, fn(&[String]) -> Figures, f64);
 /// Quick-xml's own comes first.
 const READING: [Way; 3] = [
     ("quick-xml's Attributes", by_quick_xml, 1.0),
-    ("Attributes::new", by_new, 1.5),
-    ("Attributes::with_tables", by_lent_tables, 1.5),
+    ("Attributes::new", by_new, 1.4),
+    ("Attributes::with_tables", by_lent_tables, 1.4),
+];
+
+/// The same of tags of many attributes, which shall not take longer than by quick-xml: batches that do not grow would take
+/// several times as long.
+const READING_WIDE: [Way; 3] = [
+    ("quick-xml's, wide", by_quick_xml, 1.0),
+    ("new, wide", by_new, 1.0),
+    ("with_tables, wide", by_lent_tables, 1.0),
 ];
 
 const RESOLVING: [Way; 3] = [
@@ -243,9 +263,11 @@ fn main() -> ExitCode {
         }
     };
     let tags = catalogue();
-    let prefixed = with_prefixes(&tags);
-    let figures =
-        agreed(&tags, &READING).and_then(|read| Ok((read, agreed(&prefixed, &RESOLVING)?)));
+    let (wide, prefixed) = (wide(), with_prefixes(&tags));
+    let figures = agreed(&tags, &READING).and_then(|read| {
+        agreed(&wide, &READING_WIDE)?;
+        Ok((read, agreed(&prefixed, &RESOLVING)?))
+    });
     let (read, resolved) = match figures {
         Ok(((read, _), (resolved, _))) => (read, resolved),
         Err(difference) => {
@@ -257,9 +279,13 @@ fn main() -> ExitCode {
     let bytes = tags.iter().map(String::len).sum::<usize>();
     println!("{TAGS} tags, {read} attributes, {bytes} bytes, checks on");
     let mut missed = compared(&tags, READING);
-    println!("the same with namespaces, {resolved} names in one");
+    println!("tags of {WIDE} attributes");
+    missed.extend(compared(&wide, READING_WIDE));
+    println!("the catalogue with namespaces, {resolved} names in one");
     missed.extend(compared(&prefixed, RESOLVING));
-    if check && !none_missed(READING.len() + RESOLVING.len() - 2, &missed) {
+    // in each, quick-xml's own is no way of ours
+    let wanted = READING.len() + READING_WIDE.len() + RESOLVING.len() - 3;
+    if check && !none_missed(wanted, &missed) {
         return ExitCode::FAILURE;
     }
     ExitCode::SUCCESS

@@ -17,7 +17,7 @@
 mod library;
 mod turns;
 
-use library::mz_read_batch;
+use library::{KEYS, mz_read_batch};
 use oracle::steps::{count_by_attributes, count_by_state};
 use std::cell::RefCell;
 use std::hint::black_box;
@@ -31,6 +31,8 @@ type ReadBatch = unsafe extern "C" fn(
     *mut usize,
     usize,
     *mut usize,
+    usize,
+    *mut u32,
     usize,
     *mut usize,
     bool,
@@ -55,7 +57,6 @@ const BEFORE: Option<ReadBatch> = None;
 /// How many times as long as by the other library a tag may take.
 const SLOWER: f64 = 1.05;
 
-const KEYS: usize = 256;
 /// Room for all answers of any tag here, and one more, so that one call reads to the end.
 const ROOM: usize = 5 * (KEYS + 1);
 
@@ -63,6 +64,7 @@ const ROOM: usize = 5 * (KEYS + 1);
 struct Lent {
     starts: [usize; KEYS],
     ends: [usize; KEYS],
+    hashes: [u32; KEYS],
     out: [usize; ROOM],
 }
 
@@ -72,7 +74,7 @@ impl Lent {
         // The place next, at 0, and no recorded key.
         let mut state = [1, 0, 0, 0];
         // SAFETY: each pointer is that of a live array or slice of the stated length, or of the four numbers
-        // of a state; the tag is only read, and the four that are written are borrowed mutably and apart
+        // of a state; the tag is only read, and the five that are written are borrowed mutably and apart
         // from each other.
         let count = unsafe {
             batch(
@@ -81,6 +83,8 @@ impl Lent {
                 self.starts.as_mut_ptr(),
                 KEYS,
                 self.ends.as_mut_ptr(),
+                KEYS,
+                self.hashes.as_mut_ptr(),
                 KEYS,
                 state.as_mut_ptr(),
                 false,
@@ -116,9 +120,10 @@ fn cases() -> Vec<Case> {
         tag,
         wanted: [Some(on), off],
     };
-    let short = |count: usize, on: f64| {
-        let tag = short_attributes(count);
-        case(&format!("{count} short attributes"), tag, on, Some(1.25))
+    let short = |count: usize, on: Option<f64>| Case {
+        name: format!("{count} short attributes"),
+        tag: short_attributes(count),
+        wanted: [on, Some(1.25)],
     };
     let unquoted = (0..20).map(|n| format!(" a{n}=v{n}")).collect();
     let long = "v".repeat(4_096);
@@ -126,14 +131,16 @@ fn cases() -> Vec<Case> {
         case(
             "catalogue, 5 attributes, 121 bytes",
             CATALOGUE.to_string(),
-            1.8,
+            1.7,
             Some(1.25),
         ),
-        short(22, 1.5),
-        short(32, 1.5),
-        short(33, 1.5),
-        short(64, 1.0),
-        short(256, 0.3),
+        short(22, Some(1.8)),
+        short(32, Some(1.8)),
+        short(33, Some(1.8)),
+        short(64, Some(1.6)),
+        short(256, Some(1.2)),
+        short(700, Some(1.2)),
+        short(KEYS, None),
         case(
             "two values of 4 KB",
             format!(" a=\"{long}\" b='{long}'"),
@@ -202,6 +209,7 @@ fn measure(case: &Case, checks: bool) -> Result<Row, String> {
     let mut lent = Lent {
         starts: [0; KEYS],
         ends: [0; KEYS],
+        hashes: [0; KEYS],
         out: [0; ROOM],
     };
     let mut attributes = || count_by_attributes(black_box(text), false, checks);
@@ -316,7 +324,9 @@ fn measure_all() -> Result<Vec<Row>, String> {
 }
 
 /// The numbers of attributes that are plotted: 32 and 33 are where the crate begins to search by hash.
-const PLOTTED: [usize; 14] = [1, 2, 4, 8, 16, 22, 32, 33, 48, 64, 96, 128, 192, KEYS];
+const PLOTTED: [usize; 18] = [
+    1, 2, 4, 8, 16, 22, 32, 33, 48, 64, 96, 128, 192, 256, 384, 512, 700, KEYS,
+];
 
 /// All of them are measured so many times over, and each way's fastest counts.
 const PASSES: usize = 4;

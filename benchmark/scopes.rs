@@ -16,7 +16,9 @@
 mod library;
 mod turns;
 
-use library::{mz_binding, mz_fresh, mz_pop, mz_push, mz_read_batch, mz_resolve, mz_resolve_all};
+use library::{
+    KEYS, mz_binding, mz_fresh, mz_pop, mz_push, mz_read_batch, mz_resolve, mz_resolve_all,
+};
 use oracle::events::BytesStart;
 use oracle::{NamespaceResolver, QName, ResolveResult, scopes};
 use std::cell::RefCell;
@@ -481,6 +483,7 @@ const BATCH: usize = 8;
 struct Reader {
     starts: [usize; PLACES],
     ends: [usize; PLACES],
+    hashes: [u32; PLACES],
     out: [[usize; ANSWER]; BATCH],
 }
 
@@ -489,6 +492,7 @@ impl Reader {
         Reader {
             starts: [0; PLACES],
             ends: [0; PLACES],
+            hashes: [0; PLACES],
             out: [[0; ANSWER]; BATCH],
         }
     }
@@ -497,7 +501,7 @@ impl Reader {
     fn read(&mut self, tag: &str) -> &[[usize; ANSWER]] {
         let mut state = [1, TAG_NAME, 0, 0];
         // SAFETY: each pointer is that of a live array or slice of the stated length, or of the four numbers
-        // of a state; the tag is only read, and the four that are written are borrowed mutably and apart
+        // of a state; the tag is only read, and the five that are written are borrowed mutably and apart
         // from each other.
         let count = unsafe {
             mz_read_batch(
@@ -506,6 +510,8 @@ impl Reader {
                 self.starts.as_mut_ptr(),
                 PLACES,
                 self.ends.as_mut_ptr(),
+                PLACES,
+                self.hashes.as_mut_ptr(),
                 PLACES,
                 state.as_mut_ptr(),
                 false,
@@ -680,8 +686,8 @@ fn print(rows: &[Row], markdown: bool) {
 fn print_memory() -> Result<(), String> {
     let fresh = [Lent::fresh(73, 2)?, Lent::first()?, Lent::full()?].map(|lent| lent.bytes());
     let [least, first, full] = fresh;
-    let reader = NUMBER * (2 * PLACES + STATE);
-    let (answer, most) = (NUMBER * ANSWER, NUMBER * (2 * 256 + STATE));
+    let iterator = |places: usize| NUMBER * (2 * places + STATE) + size_of::<u32>() * places;
+    let (reader, most, answer) = (iterator(PLACES), iterator(KEYS), NUMBER * ANSWER);
     println!(
         "Memory: a fresh resolver {least} bytes at least, {first} here, {full} of full size; an iterator {reader} \
          bytes with places for {PLACES} keys, {most} with all, and {answer} for each answer that is read ahead. The \

@@ -8,8 +8,8 @@
 //!
 //! The tag is read as text by `Attributes`, where bytes that are none are replaced, and as it stands by
 //! `ByteAttributes`, which is held against the crate's private iterator. A run is compared up to the first
-//! refusal that quick-xml doesn't have, and that one has to be due: a 257th key, a 1,027th record, more
-//! text than a resolver has room for.
+//! refusal that quick-xml doesn't have, and that one has to be due: a key, a record or more text than there is room
+//! for.
 //!
 //! The calls are made once more in memory that is lent, little of it at first and more when that is full: they have
 //! to answer as in memory of the resolver's own.
@@ -25,7 +25,7 @@ use std::fmt::Debug;
 use std::panic::catch_unwind;
 
 /// What the library has room for.
-const KEYS: usize = 256;
+const KEYS: usize = Tables::KEYS;
 const RECORDS: usize = 1_026;
 const TEXT: usize = 65_536;
 /// So many bytes of an input stand before the tag.
@@ -58,9 +58,9 @@ impl Input {
             None => (rest, &[][..]),
         };
         let bytes = Lent::LEAST + 3 * usize::from(numbered);
-        // attributes of different names stand first, up to 510, if that is flagged
+        // attributes of different names stand first, up to more than there is room for, if that is flagged
         let numbered = match flags & 24 {
-            24 => 2 * usize::from(numbered),
+            24 => usize::from(numbered) * KEYS / 200,
             _ => 0,
         };
         let mut tag = attributes_of_different_names(numbered, "k").into_bytes();

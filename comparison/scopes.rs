@@ -9,8 +9,8 @@
 //!
 //! Names whose prefix is unknown: what the crate makes its refusal 11 of is what the library answers 2 for,
 //! with the bounds of the same prefix. Searches for `nil`: the answer, the place and the recorded keys that
-//! are left, key places that are not in use, and the resolver, which is as it was. 7, 20 and, where 257 keys
-//! are recorded, 6 are decided here.
+//! are left with their hashes, key places that are not in use, and the resolver, which is as it was. 7, 20 and, where
+//! a key has no place of all that there can be, 6 are decided here.
 //!
 //! Memory may be lent shorter than its capacity: it is the resolver whose missing places are unused and zero. So
 //! a call on short memory is held against the same call on full memory, which the crate decides: the same answer
@@ -30,6 +30,7 @@ mod declarations;
 mod drawn;
 #[path = "../oracle/src/due.rs"]
 mod due;
+mod hash;
 #[path = "scopes/lent.rs"]
 mod lent;
 #[path = "../rust/src/library.rs"]
@@ -48,7 +49,8 @@ use lent::{
     BUILT_IN, BUILT_IN_TEXT, Call, DEEPEST, LIMIT, NUMBERS, ROW, Scope, UNTOUCHED, WRONG_LENGTH,
     cut,
 };
-use nil::{Cursor, INSTANCE, KEYS, Tag};
+use library::KEYS;
+use nil::{Cursor, INSTANCE, Tag};
 use oracle::scopes;
 use oracle::steps::Reader;
 use oracle::{Namespace, NamespaceError, NamespaceResolver, QName, ResolveResult};
@@ -292,7 +294,7 @@ impl<'t> Pair<'t> {
         let answer = theirs
             .has_nil(&self.theirs)
             .ok_or("a tag that is no text")?;
-        let wanted = ours.gone_on(theirs);
+        let wanted = ours.gone_on(tag.text, theirs);
         self.hold_found(tag, ours, usize::from(answer), &wanted)?;
         Ok(answer)
     }
@@ -748,17 +750,24 @@ fn wrong_lengths(_: &Extent, tally: &mut Tally) -> Result<(), String> {
             tally.wrong_length += 1;
         }
         for position in [0, 99] {
-            hold_search_unwritten(&scope, &Cursor::at([2, position], &[]), WRONG_LENGTH, tally)?;
+            hold_search_unwritten(
+                &scope,
+                &Cursor::at("", [2, position], &[]),
+                WRONG_LENGTH,
+                tally,
+            )?;
         }
     }
-    for (starts, ends) in [
-        (KEYS + 1, KEYS),
-        (KEYS, KEYS + 1),
-        (0, KEYS + 1),
-        (1_000, 1_000),
+    for places in [
+        [KEYS + 1, KEYS, KEYS],
+        [KEYS, KEYS + 1, KEYS],
+        [KEYS, KEYS, KEYS + 1],
+        [0, KEYS + 1, 0],
+        [0, 0, KEYS + 1],
+        [2 * KEYS + 88; 3],
     ] {
         for position in [0, 99] {
-            let cursor = Cursor::at([2, position], &[]).with_places(starts, ends);
+            let cursor = Cursor::at("", [2, position], &[]).with_places(places);
             hold_search_unwritten(&good, &cursor, WRONG_LENGTH, tally)?;
         }
     }
@@ -813,12 +822,21 @@ fn nils(extent: &Extent, tally: &mut Tally) -> Result<(), String> {
 fn hold_nil_anywhere(pair: &mut Pair, text: &str, lcg: &mut Lcg) -> Result<(), String> {
     for tag in Tag::readings(text) {
         let (place, keys) = nil::drawn_state(lcg, text);
-        let mut ours = Cursor::at(place.numbers(), &keys);
+        let mut ours = Cursor::at(text, place.numbers(), &keys);
         if nil::is_bad(text, place, &keys) {
             let wanted = ours.zeroed();
             pair.hold_found(tag, &mut ours, 7, &wanted)?;
             continue;
         }
+        // a hash that is not its key's, by one bit
+        for index in 0..keys.len() {
+            let mut wrong = ours.clone();
+            wrong.hashes[index] ^= 1 << lcg.below(32);
+            let wanted = wrong.zeroed();
+            pair.hold_found(tag, &mut wrong, 7, &wanted)?;
+        }
+        // behind the recorded keys it is of no effect, whatever stands there
+        ours.hashes[keys.len()] = ours.hashes[0];
         let from = Reader::from_state(text.as_bytes(), place, tag.html, tag.checks, &keys);
         let mut theirs = from.ok_or("a good state that the crate can't step from")?;
         pair.hold_search(tag, &mut ours, &mut theirs)?;
@@ -843,7 +861,7 @@ fn nil_rows(tally: &mut Tally) -> Result<(), String> {
             continue;
         }
         (0..KEYS).for_each(|_| drop(theirs.step()));
-        let mut wanted = ours.gone_on(&theirs);
+        let mut wanted = ours.gone_on(&text, &theirs);
         wanted.numbers[..3].copy_from_slice(&[0, 0, KEYS]);
         pair.hold_found(tag, &mut ours, 0, &wanted)?;
         for numbers in [
@@ -970,7 +988,7 @@ fn changed_by_hand(extent: &Extent, tally: &mut Tally) -> Result<(), String> {
 fn hold_bad(scope: &Scope, tally: &mut Tally) -> Result<(), String> {
     tally.runs += 1;
     for position in [0, 99] {
-        hold_search_unwritten(scope, &Cursor::at([2, position], &[]), 20, tally)?;
+        hold_search_unwritten(scope, &Cursor::at("", [2, position], &[]), 20, tally)?;
     }
     for call in call_of_each_kind() {
         tally.calls += 1;

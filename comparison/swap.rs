@@ -44,10 +44,21 @@ const NILS: [&str; 12] = [
     " k#='1'",
     " k#='1'",
 ];
+/// The attributes of long tags, of which names in one place of two have one hash (FNV-1a with 32 bits).
+const LONG: [&str; 6] = [
+    " k#='1'",
+    " yaczf#=''",
+    " glbpp#=''",
+    " é#=\"2\"",
+    " b#=x",
+    " a='1 2'",
+];
 /// So many tags are searched after each call on a resolver.
 const SEARCHES: usize = 4;
-/// No tag here has more answers.
-const ANSWERS: usize = 200;
+/// So many keys the crate records; a long tag has no more, so that the refusal that quick-xml lacks does not come.
+const KEYS: usize = ::mezzulidda::events::attributes::Tables::KEYS;
+/// No tag here has more answers, with what is shown of each.
+const ANSWERS: usize = 3 * KEYS;
 
 /// What is drawn by a fixed sequence of numbers.
 #[derive(Clone)]
@@ -66,15 +77,27 @@ impl Drawn {
         self.below(of) == 0
     }
 
+    /// A short tag of pieces, or a long one of attributes.
     fn tag(&mut self) -> String {
+        if self.is_one_in(50) {
+            return self.attributes(KEYS, &LONG);
+        }
         (0..self.below(40)).map(|_| self.one_of(&PIECES)).collect()
+    }
+
+    /// Fewer attributes than `end`; the number in their names is not that of another, for the most part.
+    fn attributes(&mut self, end: usize, list: &[&str]) -> String {
+        let attribute = |n: usize, one: &str| one.replace('#', &n.to_string());
+        let number = |n: usize, drawn: &mut Self| if drawn.is_one_in(9) { n / 2 } else { n };
+        (0..self.below(end))
+            .map(|n| attribute(number(n, self), self.one_of(list)))
+            .collect()
     }
 
     /// A tag named `t` with many attributes that are `nil`, or nearly so.
     fn nils(&mut self) -> String {
-        let attribute = |n: usize, one: &str| one.replace('#', &n.to_string());
-        let attributes = (0..self.below(40)).map(|n| attribute(n, self.one_of(&NILS)));
-        "t".to_string() + &attributes.collect::<String>()
+        let end = if self.is_one_in(20) { 400 } else { 40 };
+        "t".to_string() + &self.attributes(end, &NILS)
     }
 
     /// A tag named `t`, mostly of declarations.
@@ -173,7 +196,7 @@ macro_rules! calls_on {
                 } else {
                     Attributes::new(&tag, 1)
                 };
-                for _ in 0..drawn.below(30) {
+                for _ in 0..drawn.below(30 + tag.len() / 30) {
                     match drawn.below(6) {
                         0 => told.push(shown(attributes.has_nil(resolver))),
                         1 => {

@@ -5,38 +5,40 @@
 //! is compared; then the same run is read again with room for several, which has to give the same
 //! answers and leave the same state. What the crate decides is taken from the crate. Document 01's
 //! added refusals are decided here by its sentences: 7 from the state that is given, 6 where the
-//! crate records a 257th key. A run is compared up to the first of them.
+//! crate records a key more than there are places. A run is compared up to the first of them. So is the hash that
+//! document 02 keeps beside each key; tags have names that share one.
 //!
 //! Compared too: why reading stopped; key places that are not in use keep their content (7 leaves zeros);
 //! numbers of the output behind the last answer are not written, and nothing at all is where it has no room for
 //! one; a position beside `done`, which says nothing, stays; a kind of place above 3 is a bad state.
 //!
-//! Key tables may be shorter than the capacity: with each number of places, from none to all, the answers are
-//! those with all of them up to the first key that has no place, where reading stops before it, says so, and goes
-//! on with longer tables as if they had been there from the start.
+//! Key tables may be shorter than the capacity, each by itself: with each number of places, from none to all, the
+//! answers are those with all of them up to the first key that has no place, where reading stops before it, says so,
+//! and goes on with longer tables as if they had been there from the start.
 //!
 //! Usage: `tags [--short | --whole]`. Status 0 and counts where all agrees, status 1 and the first difference
 //! where it doesn't.
 
 #[path = "../oracle/src/cases.rs"]
 mod cases;
+mod hash;
 #[path = "../rust/src/library.rs"]
 mod library;
 mod parts;
 
-use cases::{Lcg, Shape};
-use library::mz_read_batch;
+use cases::{Lcg, SHARED, Shape};
+use hash::hash;
+use library::{KEYS, mz_read_batch};
 use oracle::steps::{Place, Reader, opened_by_start_tag};
 use oracle::text::shown;
 use parts::{Counts, Part};
 use std::ops::Range;
 use std::process::ExitCode;
 
-/// The most keys that the library records.
-const KEYS: usize = 256;
 const SEED: u64 = 42_004;
 /// What stands in memory that a call has to leave alone.
 const UNTOUCHED: usize = 0x5a5a_5a5a;
+const UNTOUCHED_HASH: u32 = 0x5a5a_5a5a;
 
 /// How much is run. The bounded part takes less than a minute; the short one is for a tool that looks at
 /// each access to memory.
@@ -47,6 +49,9 @@ struct Extent {
     drawn_states: usize,
     drawn_long: usize,
     few_places: usize,
+    /// How far apart are the numbers of places with which a tag of all keys is read.
+    places_apart: usize,
+    kept_hashes: usize,
 }
 
 const SHORT: Extent = Extent {
@@ -56,6 +61,8 @@ const SHORT: Extent = Extent {
     drawn_states: 4,
     drawn_long: 8,
     few_places: 20,
+    places_apart: 64,
+    kept_hashes: 4,
 };
 const BOUNDED: Extent = Extent {
     every_up_to: 4,
@@ -64,6 +71,8 @@ const BOUNDED: Extent = Extent {
     drawn_states: 500,
     drawn_long: 4_000,
     few_places: 3_000,
+    places_apart: 1,
+    kept_hashes: 400,
 };
 const WHOLE: Extent = Extent {
     every_up_to: 6,
@@ -72,6 +81,8 @@ const WHOLE: Extent = Extent {
     drawn_states: 4_000,
     drawn_long: 40_000,
     few_places: 40_000,
+    places_apart: 1,
+    kept_hashes: 8_000,
 };
 
 /// A tag with the mode and the checks it is read by.
@@ -117,48 +128,70 @@ const NONE: usize = usize::MAX;
 struct State {
     starts: Vec<usize>,
     ends: Vec<usize>,
+    hashes: Vec<u32>,
     numbers: [usize; 4],
 }
 
+/// How many places each key table has.
+type Places = [usize; 3];
+
+/// Places for all keys that there can be.
+const ALL: Places = [KEYS; 3];
+
+/// Places for all keys that a tag can have: one that is short has no more keys than bytes.
+fn enough(tag: &[u8]) -> Places {
+    [KEYS.min(tag.len() + 1); 3]
+}
+
 impl State {
-    fn at(place: Place, keys: &[Range<usize>]) -> Self {
+    fn at(tag: &[u8], place: Place, keys: &[Range<usize>], places: Places) -> Self {
         let [kind, at] = place.numbers();
         let mut state = State {
-            starts: vec![UNTOUCHED; KEYS],
-            ends: vec![UNTOUCHED; KEYS],
+            starts: vec![UNTOUCHED; places[0]],
+            ends: vec![UNTOUCHED; places[1]],
+            hashes: vec![UNTOUCHED_HASH; places[2]],
             numbers: [kind, at, keys.len(), UNTOUCHED],
         };
         for (index, key) in keys.iter().enumerate().take(KEYS) {
-            state.starts[index] = key.start;
-            state.ends[index] = key.end;
+            state.put(index, tag, key);
         }
         state
     }
 
-    /// Document 01's table for 7: done, no keys, every key place zero.
+    /// A key stands at an index, with its hash; one that is not in the tag has any.
+    fn put(&mut self, index: usize, tag: &[u8], key: &Range<usize>) {
+        self.starts[index] = key.start;
+        self.ends[index] = key.end;
+        self.hashes[index] = hash(tag.get(key.clone()).unwrap_or_default());
+    }
+
+    /// Document 01's table for 7: done, no keys, every key place zero; by document 02 every hash, too.
     fn zeroed(&self) -> Self {
         State {
             starts: vec![0; self.starts.len()],
             ends: vec![0; self.ends.len()],
+            hashes: vec![0; self.hashes.len()],
             numbers: [0, 0, 0, self.numbers[3]],
         }
     }
 
     /// The same with tables of these lengths, and what stands in unused places behind.
-    fn with_places(&self, starts: usize, ends: usize) -> Self {
+    fn with_places(&self, [starts, ends, hashes]: Places) -> Self {
         let mut state = self.clone();
         state.starts.resize(starts, UNTOUCHED);
         state.ends.resize(ends, UNTOUCHED);
+        state.hashes.resize(hashes, UNTOUCHED_HASH);
         // so that an access beyond them is one beyond what was allocated
         state.starts.shrink_to_fit();
         state.ends.shrink_to_fit();
+        state.hashes.shrink_to_fit();
         state
     }
 
     /// The library's batch on this state: the number of answers that it wrote.
     fn read(&mut self, tag: Tag, out: &mut [usize]) -> usize {
         // SAFETY: each pointer is that of a live array or slice of the stated length, or of the four numbers
-        // of a state; the tag is only read, and the four that are written are borrowed mutably and apart
+        // of a state; the tag is only read, and the five that are written are borrowed mutably and apart
         // from each other.
         unsafe {
             mz_read_batch(
@@ -168,6 +201,8 @@ impl State {
                 self.starts.len(),
                 self.ends.as_mut_ptr(),
                 self.ends.len(),
+                self.hashes.as_mut_ptr(),
+                self.hashes.len(),
                 self.numbers.as_mut_ptr(),
                 tag.html,
                 tag.checks,
@@ -182,9 +217,13 @@ impl State {
         let kind = ["done", "next", "value", "eq"]
             .get(kind)
             .map_or(format!("kind {kind}"), |k| k.to_string());
-        let used = count.min(self.starts.len()).min(self.ends.len());
+        let lengths = [self.starts.len(), self.ends.len(), self.hashes.len()];
+        let used = lengths.into_iter().fold(count, usize::min);
         let keys = |indices: Range<usize>| -> String {
-            let key = |index: usize| format!(" {}..{}", self.starts[index], self.ends[index]);
+            let key = |index: usize| {
+                let (start, end) = (self.starts[index], self.ends[index]);
+                format!(" {start}..{end} {:08x}", self.hashes[index])
+            };
             indices.map(key).collect()
         };
         let listed = match used {
@@ -222,7 +261,7 @@ crate_reader!(oracle oracle_two_bit);
 
 /// The answer that is due, and what it does to the lent state. Where the crate records a key beyond
 /// the table, document 01 has refusal 6 with that key's start, which leaves done and records nothing.
-fn due(reader: &mut impl Crate, state: &mut State) -> Option<[usize; 5]> {
+fn due(tag: Tag, reader: &mut impl Crate, state: &mut State) -> Option<[usize; 5]> {
     let recorded = reader.keys().len();
     let answer = reader.step();
     let keys = reader.keys();
@@ -231,8 +270,7 @@ fn due(reader: &mut impl Crate, state: &mut State) -> Option<[usize; 5]> {
             state.numbers = [0, 0, KEYS, OUT_FULL];
             return Some([6, key.start, 0, 0, 0]);
         }
-        state.starts[recorded] = key.start;
-        state.ends[recorded] = key.end;
+        state.put(recorded, tag.bytes, key);
     }
     let [kind, at] = reader.place();
     state.numbers = [kind, at, keys.len(), stopped(answer)];
@@ -247,8 +285,9 @@ const fn stopped(answer: Option<[usize; 5]>) -> usize {
     }
 }
 
-/// Document 01's state 7: a recorded key that is empty or not inside the tag, more than 256 keys, a
-/// skip place not inside the tag, or a skip-from-`=` place whose byte is not `=`.
+/// Document 01's state 7: a recorded key that is empty or not inside the tag, more keys than can be recorded, a
+/// skip place not inside the tag, or a skip-from-`=` place whose byte is not `=`. (A hash that is not its key's, which
+/// document 02 adds, is put in by hand: [`kept_hashes`].)
 fn is_bad(tag: &[u8], place: Place, keys: &[Range<usize>]) -> bool {
     let bad_place = match place {
         Place::Done | Place::Next(_) => false,
@@ -353,11 +392,17 @@ fn hold_run(
     mut reader: impl Crate,
     tally: &mut Tally,
 ) -> Result<(), String> {
-    let opened = State::at(Place::Next(position), &[]);
+    // some with all places, the others with as many as the tag needs, which is fast
+    let places = if tally.runs.is_multiple_of(16) {
+        ALL
+    } else {
+        enough(tag.bytes)
+    };
+    let opened = State::at(tag.bytes, Place::Next(position), &[], places);
     let (mut ours, mut wanted) = (opened.clone(), opened.clone());
     let mut answers = Vec::new();
     loop {
-        let answer = due(&mut reader, &mut wanted);
+        let answer = due(tag, &mut reader, &mut wanted);
         hold_step(tag, &mut ours, &wanted, answer)?;
         tally.steps += 1;
         answers.extend(answer.iter().flatten().copied());
@@ -510,7 +555,11 @@ fn hold_state(
     keys: &[Range<usize>],
     tally: &mut Tally,
 ) -> Result<(), String> {
-    let mut ours = State::at(place, keys);
+    let places = match keys.len() {
+        0..4 if !tally.runs.is_multiple_of(16) => enough(tag.bytes).map(|places| places + 4),
+        _ => ALL,
+    };
+    let mut ours = State::at(tag.bytes, place, keys, places);
     let mut wanted = ours.clone();
     let answer = if is_bad(tag.bytes, place, keys) {
         tally.bad += 1;
@@ -520,7 +569,7 @@ fn hold_state(
     } else {
         let mut reader = Reader::from_state(tag.bytes, place, tag.html, tag.checks, keys)
             .ok_or_else(|| format!("{}: the crate can't step from a good state", tag.shown()))?;
-        due(&mut reader, &mut wanted)
+        due(tag, &mut reader, &mut wanted)
     };
     tally.full += usize::from(matches!(answer, Some([6, ..])));
     tally.runs += 1;
@@ -565,11 +614,11 @@ fn hold_by_hand(tag: Tag, place: Place, tally: &mut Tally) -> Result<(), String>
         [usize::MAX - kind, at, 0],
     ];
     for [kind, at, count] in bad {
-        let mut ours = State::at(place, &[]);
+        let mut ours = State::at(tag.bytes, place, &[], ALL);
         ours.numbers = [kind, at, count, UNTOUCHED];
         hold_bad(tag, ours, tally)?;
     }
-    let mut ours = State::at(Place::Done, &[]);
+    let mut ours = State::at(tag.bytes, Place::Done, &[], ALL);
     ours.numbers[1] = at;
     let mut wanted = ours.clone();
     wanted.numbers[3] = ENDED;
@@ -633,7 +682,7 @@ fn skips_from_eq(_: &Extent, tally: &mut Tally) -> Result<(), String> {
         for tag in Tag::readings(text.as_bytes()) {
             hold_state(tag, Place::SkipEqValue(EQ), &[0..1], tally)?;
             for at in (0..=text.len()).filter(|&at| at != EQ) {
-                let state = State::at(Place::SkipEqValue(at), &[0..1]);
+                let state = State::at(tag.bytes, Place::SkipEqValue(at), &[0..1], ALL);
                 hold_bad(tag, state, tally)?;
             }
         }
@@ -679,18 +728,20 @@ fn drawn_key(lcg: &mut Lcg, len: usize) -> Range<usize> {
     start..start + 1 + lcg.below(len - start)
 }
 
-/// Up to 320 attributes, whole, repeated and damaged, against both oracles.
+/// Up to more attributes than keys can be recorded, whole, repeated and damaged, some with names of one hash, against
+/// both oracles.
 fn drawn_long(extent: &Extent, tally: &mut Tally) -> Result<(), String> {
     let mut lcg = Lcg::new(SEED + 2);
-    for _ in 0..extent.drawn_long {
+    for round in 0..extent.drawn_long {
         let shape = Shape {
-            attributes: if lcg.chance(40) {
-                250 + lcg.below(71)
-            } else {
-                1 + lcg.below(320)
+            attributes: match round % 40 {
+                0 => KEYS + 1 + lcg.below(64),
+                1 => 1 + lcg.below(KEYS),
+                _ => 1 + lcg.below(200),
             },
-            repeated: [0, 0, 3, 20][lcg.below(4)],
-            damaged: [0, 0, 2, 10, 40][lcg.below(5)],
+            repeated: [0, 0, 3, 20][round % 4],
+            shared: [0, 0, 30, 90][lcg.below(4)],
+            damaged: [0, 0, 2, 10, 40][round % 5],
             wild: lcg.chance(30),
         };
         let bytes = cases::long_tag(&mut lcg, &shape);
@@ -716,24 +767,29 @@ fn drawn_long(extent: &Extent, tally: &mut Tally) -> Result<(), String> {
     Ok(())
 }
 
-/// A run with all places, and where each step begins: the states before its steps, the answers, and the state that
-/// is left.
+/// A run with all places: the numbers of the state before each step, of the one that is left and, in between, of none;
+/// the answers; and the state that is left. Keys are recorded one behind the other, so that it has those of all steps.
 struct Whole {
-    states: Vec<State>,
+    numbers: Vec<[usize; 4]>,
     answers: Vec<[usize; 5]>,
+    last: State,
 }
 
 impl Whole {
-    fn read(tag: Tag, from: &State) -> Self {
-        let (mut states, mut answers) = (vec![from.clone()], Vec::new());
-        let mut state = from.clone();
+    fn read(tag: Tag) -> Self {
+        let mut last = State::at(tag.bytes, Place::Next(0), &[], ALL);
+        let (mut numbers, mut answers) = (vec![last.numbers], Vec::new());
         let mut out = [0; 5];
-        while state.read(tag, &mut out) == 1 {
-            states.push(state.clone());
+        while last.read(tag, &mut out) == 1 {
+            numbers.push(last.numbers);
             answers.push(out);
         }
-        states.push(state);
-        Whole { states, answers }
+        numbers.push(last.numbers);
+        Whole {
+            numbers,
+            answers,
+            last,
+        }
     }
 
     /// What is due from a step on with so many places and so much room: how many answers, and why it stops.
@@ -745,44 +801,77 @@ impl Whole {
             if step == self.answers.len() {
                 return (step - from, ENDED);
             }
-            let recorded = self.states[step + 1].numbers[2];
-            if recorded > self.states[step].numbers[2] && recorded > places {
+            let recorded = self.numbers[step + 1][2];
+            if recorded > self.numbers[step][2] && recorded > places {
                 return (step - from, MORE_KEYS);
             }
         }
         unreachable!("a step is the last")
     }
 
-    /// The state that is left before a step, with so many places.
-    fn left(&self, step: usize, why: usize, starts: usize, ends: usize) -> State {
+    /// The state before a step, with so many places, of which those behind the recorded keys hold what they held.
+    fn before(&self, step: usize, places: Places) -> State {
+        let [kind, at, recorded, _] = self.numbers[step];
+        let kept = places.map(|places| recorded.min(places));
+        let mut state = State {
+            starts: self.last.starts[..kept[0]].to_vec(),
+            ends: self.last.ends[..kept[1]].to_vec(),
+            hashes: self.last.hashes[..kept[2]].to_vec(),
+            numbers: [kind, at, recorded, UNTOUCHED],
+        };
+        state = state.with_places(places);
+        state
+    }
+
+    /// The state that is left where reading stops before a step.
+    fn left(&self, step: usize, why: usize, places: Places) -> State {
         let step = if why == ENDED { step + 1 } else { step };
-        let mut state = self.states[step].with_places(starts, ends);
+        let mut state = self.before(step, places);
         state.numbers[3] = why;
         state
     }
 }
 
-/// A run with few places, then more of them each time that a key has none.
+/// So many places for each table, which are the same for the most part.
+fn drawn_places(lcg: &mut Lcg, least: usize, few: usize) -> Places {
+    let most = KEYS + 1 - least;
+    let mut places = [least + lcg.below(most); 3];
+    if lcg.chance(50) {
+        places = [least + lcg.below(few.min(most)); 3];
+    }
+    if lcg.chance(30) {
+        // the shortest one counts
+        let longer = lcg.below(3);
+        places[longer] = places[longer].max(least + lcg.below(most));
+    }
+    if lcg.chance(30) {
+        places[lcg.below(3)] = KEYS;
+    }
+    places
+}
+
+fn shortest(places: Places) -> usize {
+    places.into_iter().fold(usize::MAX, usize::min)
+}
+
+/// A run from a step on with few places, then more of them each time that a key has none.
 fn hold_with_places(
     tag: Tag,
-    from: &State,
     whole: &Whole,
+    from: usize,
     lcg: &mut Lcg,
     tally: &mut Tally,
 ) -> Result<(), String> {
-    let recorded = from.numbers[2];
-    let mut places = [recorded + lcg.below(KEYS + 1 - recorded); 2];
-    if lcg.chance(50) {
-        places = [recorded + lcg.below(4.min(KEYS + 1 - recorded)); 2];
-    }
-    let mut ours = from.with_places(places[0], places[1]);
-    let mut step = 0;
+    let mut places = drawn_places(lcg, whole.numbers[from][2], 4);
+    let mut ours = whole.before(from, places);
+    let mut step = from;
     loop {
-        let room = 1 + lcg.below(9);
-        let (count, why) = whole.due(step, places[0].min(places[1]), room);
+        // a call tests all recorded keys: where there are many, it is given more room
+        let room = 1 + lcg.below(9 + whole.numbers[step][2]);
+        let (count, why) = whole.due(step, shortest(places), room);
         let mut out = vec![UNTOUCHED; 5 * room + lcg.below(5)];
         let got = ours.read(tag, &mut out);
-        let wanted = whole.left(step + count, why, places[0], places[1]);
+        let wanted = whole.left(step + count, why, places);
         let answers = whole.answers[step..step + count].as_flattened();
         let told = out.get(..5 * count) == Some(answers);
         let behind = out[5 * count..].iter().all(|&number| number == UNTOUCHED);
@@ -800,12 +889,10 @@ fn hold_with_places(
             ENDED => return Ok(()),
             MORE_KEYS => {
                 tally.few_places += 1;
-                places = places.map(|places| (places + 1 + lcg.below(3 * places + 2)).min(KEYS));
-                if lcg.chance(20) {
-                    // the shorter one counts
-                    places[lcg.below(2)] = KEYS;
-                }
-                ours = ours.with_places(places[0], places[1]);
+                let least = KEYS.min(shortest(places) + 1);
+                let longer = drawn_places(lcg, least, 3 * least);
+                places = [0, 1, 2].map(|table| places[table].max(longer[table]));
+                ours = ours.with_places(places);
             }
             _ => {}
         }
@@ -813,22 +900,29 @@ fn hold_with_places(
 }
 
 /// Fewer places than keys are recorded is a bad state; more than there can be is no table.
-fn hold_other_places(tag: Tag, from: &State, lcg: &mut Lcg) -> Result<(), String> {
-    let recorded = from.numbers[2];
+fn hold_other_places(tag: Tag, whole: &Whole, from: usize, lcg: &mut Lcg) -> Result<(), String> {
+    let recorded = whole.numbers[from][2];
     let mut cases = vec![
-        [KEYS + 1, KEYS],
-        [KEYS, KEYS + 1],
-        [0, KEYS + 1],
-        [600, 600],
+        [KEYS + 1, KEYS, KEYS],
+        [KEYS, KEYS + 1, KEYS],
+        [KEYS, KEYS, KEYS + 1],
+        [0, KEYS + 1, 0],
+        [0, 0, KEYS + 1],
+        [2 * KEYS + 88; 3],
     ];
     if recorded > 0 {
         let fewer = lcg.below(recorded);
-        cases.extend([[fewer; 2], [fewer, KEYS], [KEYS, fewer]]);
+        cases.push([fewer; 3]);
+        cases.extend([0, 1, 2].map(|table| {
+            let mut places = ALL;
+            places[table] = fewer;
+            places
+        }));
     }
-    for [starts, ends] in cases {
-        let mut ours = from.with_places(starts, ends);
+    for places in cases {
+        let mut ours = whole.before(from, places);
         let mut out = [UNTOUCHED; 11];
-        let (count, wanted, written) = match starts.max(ends) > KEYS {
+        let (count, wanted, written) = match places.iter().any(|&places| places > KEYS) {
             true => (NONE, ours.clone(), [UNTOUCHED; 5]),
             false => {
                 let mut wanted = ours.zeroed();
@@ -839,7 +933,7 @@ fn hold_other_places(tag: Tag, from: &State, lcg: &mut Lcg) -> Result<(), String
         let got = ours.read(tag, &mut out);
         if got != count || out[..5] != written || out[5..] != [UNTOUCHED; 6] || ours != wanted {
             return Err(format!(
-                "{} with {starts} and {ends} places: ours {got} {out:?} leaving {}, wanted {count} leaving {}",
+                "{} with {places:?} places: ours {got} {out:?} leaving {}, wanted {count} leaving {}",
                 tag.shown(),
                 ours.shown(),
                 wanted.shown()
@@ -854,64 +948,148 @@ fn few_places(extent: &Extent, tally: &mut Tally) -> Result<(), String> {
     let mut lcg = Lcg::new(SEED + 3);
     for round in 0..extent.few_places {
         let shape = Shape {
-            attributes: match round % 4 {
-                0 => 250 + lcg.below(12),
+            attributes: match round % 40 {
+                0 => KEYS - 6 + lcg.below(12),
+                1..5 => KEYS - 6 + lcg.below(12),
                 _ => lcg.below(40),
             },
             repeated: [0, 3, 20][lcg.below(3)],
+            shared: [0, 50][lcg.below(2)],
             damaged: [0, 0, 10][lcg.below(3)],
             wild: lcg.chance(30),
         };
         let bytes = cases::long_tag(&mut lcg, &shape);
         tally.tags += 1;
         for tag in Tag::readings(&bytes) {
-            let whole = Whole::read(tag, &State::at(Place::Next(0), &[]));
+            let whole = Whole::read(tag);
             tally.runs += 1;
             let last = whole.answers.len();
             for from in [0, 0, lcg.below(last + 1), last] {
-                let rest = Whole {
-                    states: whole.states[from..].to_vec(),
-                    answers: whole.answers[from..].to_vec(),
-                };
-                let mut state = rest.states[0].clone();
-                state.numbers[3] = UNTOUCHED;
-                hold_with_places(tag, &state, &rest, &mut lcg, tally)?;
-                hold_other_places(tag, &state, &mut lcg)?;
+                hold_with_places(tag, &whole, from, &mut lcg, tally)?;
+                hold_other_places(tag, &whole, from, &mut lcg)?;
             }
         }
     }
-    every_number_of_places(tally)
+    every_number_of_places(extent, tally)
 }
 
-/// A tag of 257 keys and each number of places.
-fn every_number_of_places(tally: &mut Tally) -> Result<(), String> {
+/// A tag of one key more than can be recorded, and each number of places: for all tables, and for one of them.
+fn every_number_of_places(extent: &Extent, tally: &mut Tally) -> Result<(), String> {
     let bytes: String = (0..=KEYS).map(|n| format!(" k{n}=''")).collect();
     tally.tags += 1;
     for tag in Tag::readings(bytes.as_bytes()) {
-        let opened = State::at(Place::Next(0), &[]);
-        let whole = Whole::read(tag, &opened);
-        for places in 0..=KEYS {
-            let room = KEYS + 2;
-            let mut ours = opened.with_places(places, places);
-            let mut out = vec![UNTOUCHED; 5 * room];
-            let (count, why) = whole.due(0, places, room);
-            let got = ours.read(tag, &mut out);
-            tally.steps += 1;
-            tally.few_places += usize::from(why == MORE_KEYS);
-            let told = out[..5 * count] == *whole.answers[..count].as_flattened();
-            if got != count || !told || ours != whole.left(count, why, places, places) {
-                return Err(format!(
-                    "{} with {places} places: ours {got} leaving {}, wanted {count}",
-                    tag.shown(),
-                    ours.shown()
-                ));
+        let whole = Whole::read(tag);
+        for fewest in (0..=KEYS).step_by(extent.places_apart) {
+            let mut places = ALL;
+            places[fewest % 3] = fewest;
+            for places in [[fewest; 3], places] {
+                let room = KEYS + 2;
+                let mut ours = whole.before(0, places);
+                let mut out = vec![UNTOUCHED; 5 * room];
+                let (count, why) = whole.due(0, fewest, room);
+                let got = ours.read(tag, &mut out);
+                tally.steps += 1;
+                tally.few_places += usize::from(why == MORE_KEYS);
+                let told = out[..5 * count] == *whole.answers[..count].as_flattened();
+                if got != count || !told || ours != whole.left(count, why, places) {
+                    return Err(format!(
+                        "{} with {places:?} places: ours {got} leaving {}, wanted {count}",
+                        tag.shown(),
+                        ours.shown()
+                    ));
+                }
             }
         }
     }
     Ok(())
 }
 
-const PARTS: [(&str, Part<Extent, Tally>); 7] = [
+/// A kept hash that is not its key's is 7, in each mode, with checks on and off; what stands in places that are not in
+/// use is of no effect.
+fn hold_kept(
+    tag: Tag,
+    whole: &Whole,
+    step: usize,
+    lcg: &mut Lcg,
+    tally: &mut Tally,
+) -> Result<(), String> {
+    let recorded = whole.numbers[step][2];
+    let places = [recorded + lcg.below(KEYS + 1 - recorded); 3];
+    let state = whole.before(step, places);
+    if recorded > 0 {
+        for index in [0, recorded - 1, lcg.below(recorded)] {
+            let other = state.hashes[lcg.below(recorded)];
+            let wrong = match lcg.below(4) {
+                0 => 0,
+                1 => !state.hashes[index],
+                2 if other != state.hashes[index] => other,
+                _ => state.hashes[index] ^ (1 << lcg.below(32)),
+            };
+            let checks = [!tag.checks, tag.checks];
+            for checks in checks.into_iter().filter(|_| wrong != state.hashes[index]) {
+                let mut ours = state.clone();
+                ours.hashes[index] = wrong;
+                hold_bad(Tag { checks, ..tag }, ours, tally)?;
+            }
+        }
+    }
+    // the next step, beside hashes of keys that are recorded, or of the one that is to be
+    let mut ours = state;
+    let mut wanted = whole.before((step + 1).min(whole.numbers.len() - 1), places);
+    let answer = whole.answers.get(step).copied();
+    let left = wanted.numbers[2];
+    if left > places[0] {
+        return Ok(());
+    }
+    for index in recorded..places[2] {
+        ours.hashes[index] = match lcg.below(5) {
+            0 => [0, 1, u32::MAX][lcg.below(3)],
+            _ => whole.last.hashes[lcg.below(left.max(1))],
+        };
+        if index >= left {
+            wanted.hashes[index] = ours.hashes[index];
+        }
+    }
+    wanted.numbers[3] = stopped(answer);
+    tally.steps += 1;
+    hold_step(tag, &mut ours, &wanted, answer)
+}
+
+/// States from inside of runs, with hashes that are put in by hand.
+fn kept_hashes(extent: &Extent, tally: &mut Tally) -> Result<(), String> {
+    for [one, other] in SHARED {
+        if hash(one.as_bytes()) != hash(other.as_bytes()) {
+            return Err(format!("{one} and {other} do not have one hash"));
+        }
+    }
+    let mut lcg = Lcg::new(SEED + 4);
+    for round in 0..extent.kept_hashes {
+        let shape = Shape {
+            attributes: match round % 20 {
+                0 => KEYS - 6 + lcg.below(12),
+                1 => lcg.below(KEYS),
+                _ => 1 + lcg.below(40),
+            },
+            repeated: [0, 3, 20][lcg.below(3)],
+            shared: [0, 50, 100][lcg.below(3)],
+            damaged: [0, 0, 10][lcg.below(3)],
+            wild: lcg.chance(30),
+        };
+        let bytes = cases::long_tag(&mut lcg, &shape);
+        tally.tags += 1;
+        for tag in Tag::readings(&bytes) {
+            let whole = Whole::read(tag);
+            tally.runs += 1;
+            for _ in 0..20 {
+                let step = lcg.below(whole.answers.len() + 1);
+                hold_kept(tag, &whole, step, &mut lcg, tally)?;
+            }
+        }
+    }
+    Ok(())
+}
+
+const PARTS: [(&str, Part<Extent, Tally>); 8] = [
     ("every byte", every_byte),
     ("every short tag", every_short),
     ("drawn short tags", drawn_short),
@@ -919,6 +1097,7 @@ const PARTS: [(&str, Part<Extent, Tally>); 7] = [
     ("states", states),
     ("drawn long tags", drawn_long),
     ("few places", few_places),
+    ("kept hashes", kept_hashes),
 ];
 
 fn main() -> ExitCode {

@@ -39,6 +39,7 @@ extern "C" {
 #define MZ_LAYOUT_LISTED 8            /* MZ_LISTED */
 #define MZ_LAYOUT_NUMBER_SIZE 9       /* sizeof(size_t) */
 #define MZ_LAYOUT_NUMBER_ALIGNMENT 10 /* its alignment */
+#define MZ_LAYOUT_HASH_SIZE 11        /* sizeof(uint32_t) */
 size_t mz_layout(size_t what);
 
 /* ---- Names ---- */
@@ -63,10 +64,10 @@ size_t mz_verdict(const uint8_t *name, size_t name_len, const uint8_t *value, si
 /* What a value says: 0 no (`0`, `false`), 1 yes (`1`, `true`), 2 neither. */
 size_t mz_as_bool(const uint8_t *value, size_t value_len);
 
-#define MZ_KEYS 256         /* so many keys of a tag can be recorded: elements of `starts` and `ends`, at most */
+#define MZ_KEYS 1024        /* so many keys of a tag can be recorded: elements of each key table, at most */
 #define MZ_STATE 4          /* elements of `state` */
 #define MZ_ANSWER 5         /* elements of `out` for each answer */
-#define MZ_NONE SIZE_MAX    /* instead of a number of answers: `starts` or `ends` is longer than MZ_KEYS */
+#define MZ_NONE SIZE_MAX    /* instead of a number of answers: a key table is longer than MZ_KEYS */
 
 /* The kinds of a place, `state[0]`. */
 #define MZ_DONE 0           /* reading has ended */
@@ -77,7 +78,7 @@ size_t mz_as_bool(const uint8_t *value, size_t value_len);
 /* Why reading stopped, `state[3]`. */
 #define MZ_OUT_FULL 0       /* `out` is full: more may follow */
 #define MZ_END 1            /* the tag has no more answers */
-#define MZ_MORE_KEYS 2      /* the next key has no place in `starts` and `ends`: lend longer ones and call again */
+#define MZ_MORE_KEYS 2      /* the next key has no place in the key tables: lend longer ones and call again */
 
 /* What an answer is, its first number. The others follow it; those that it doesn't have are 0. */
 #define MZ_EXPECTED_EQ 1    /* position */
@@ -100,11 +101,16 @@ size_t mz_as_bool(const uint8_t *value, size_t value_len);
  * A tag is opened by { MZ_NEXT, where its attributes begin, 0, 0 }; each call leaves the state for the next
  * one, which doesn't look at state[3].
  *
- * Recorded keys are bounds, `starts[i]` and `ends[i]`. With checks off none is recorded, and both may be
- * empty. They may have any length up to MZ_KEYS, and the shorter one counts: after MZ_MORE_KEYS the caller
- * copies the recorded keys to longer ones, and the answers go on as if those had been there from the start.
- * Places behind the recorded keys need not be set, and are left alone, but for MZ_BAD_STATE, which sets both
- * tables to zeros and ends reading. More recorded keys than there are places is such a state.
+ * A recorded key is its bounds, `starts[i]` and `ends[i]`, and `hashes[i]`, which is FNV-1a with 32 bits of its
+ * bytes. These are the key tables. With checks off no key is recorded, and they may be empty. They may have any
+ * length up to MZ_KEYS, and the shortest counts: after MZ_MORE_KEYS the caller copies the recorded keys to longer
+ * ones, and the answers go on as if those had been there from the start. Recording a key writes one place of each.
+ * Places behind the recorded keys need not be set, and are left alone, but for MZ_BAD_STATE, which sets all three
+ * tables to zeros and ends reading. More recorded keys than there are places is such a state, and so is a hash that
+ * is not that of its key, with checks on or off.
+ *
+ * So each call hashes all bytes of the recorded keys: with room for few answers a call, a tag of many keys, or of
+ * long ones, takes time by the square of its length. Let the room grow, or have room for the whole tag.
  *
  * What stands in `out` behind the answers is left alone. Where `out` has no room for any answer nothing at
  * all is written; and so it is with MZ_NONE.
@@ -112,6 +118,7 @@ size_t mz_as_bool(const uint8_t *value, size_t value_len);
 size_t mz_read_batch(const uint8_t *tag, size_t tag_len,
                      size_t *starts, size_t starts_len,
                      size_t *ends, size_t ends_len,
+                     uint32_t *hashes, size_t hashes_len,
                      size_t *state,
                      bool html, bool checks,
                      size_t *out, size_t out_len);
@@ -221,13 +228,14 @@ size_t mz_binding_of(MZ_RESOLVER(MZ_READ), uint16_t level, size_t place, size_t 
  * Whether one of the attributes that are left of a tag is `nil` in the namespace of XML Schema instances,
  * with a yes for its value: 0 no, 1 yes. The tag is lent as to mz_read_batch, and reading goes on behind
  * the attribute that was a yes, or has ended. What is wrong in the tag counts as a no. MZ_BAD_RESOLVER, and
- * MZ_LEND_MORE where a key has no place in the key tables, leave the tag's three arrays as they are;
+ * MZ_LEND_MORE where a key has no place in the key tables, leave these and the state as they are;
  * MZ_BAD_STATE leaves them as mz_read_batch does. Key tables longer than MZ_KEYS are MZ_WRONG_LENGTH.
  * state[3] is left alone.
  */
 size_t mz_has_nil(MZ_RESOLVER(MZ_READ), const uint8_t *tag, size_t tag_len,
                   size_t *key_starts, size_t key_starts_len,
                   size_t *key_ends, size_t key_ends_len,
+                  uint32_t *key_hashes, size_t key_hashes_len,
                   size_t *state,
                   bool html, bool checks);
 

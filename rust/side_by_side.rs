@@ -247,14 +247,15 @@ mod tests {
     /// What quick-xml does not have is an error of reading, with this crate's words.
     #[test]
     fn limits() {
-        let keys: String = (0..257).map(|k| format!(" k{k}=''")).collect();
+        let most = mezzulidda::events::attributes::Tables::KEYS;
+        let keys: String = (0..=most).map(|k| format!(" k{k}=''")).collect();
         let content = format!("t{keys}");
-        let read = ours(&content, 1).pop().expect("there are 257");
+        let read = ours(&content, 1).pop().expect("there is one more");
         assert!(
             read.starts_with("Err(Io(") && read.contains("KeyTableFull"),
             "{read}"
         );
-        assert_eq!(quick_xmls(&content, 1).len(), 257);
+        assert_eq!(quick_xmls(&content, 1).len(), most + 1);
 
         let mut scopes = NamespaceResolver::default();
         scopes.set_max_namespace_bindings(usize::MAX);

@@ -5,6 +5,7 @@
  *                   WHAT=first     what its first argument points to has, in its first byte; where the second argument
  *                                  is 0, and so may be the length of nothing, a later call's
  *                   WHAT=third     the same of its third
+ *                   WHAT=seventh   the same of its seventh, by the eighth
  *   COUNT=1                        at the end standard error gets how often each was called
  *
  * exports.h has a line EXPORT(mz_F) for each. The return address is kept aside, so that arguments on the stack are where the
@@ -19,7 +20,7 @@ struct fault {
     const char *name;
 };
 
-__attribute__((used)) void *back_to, *first, *second, *third, **pointed;
+__attribute__((used)) void *back_to, *first, *second, *third, *seventh, *eighth, **pointed, **length;
 
 #define EXPORT(function) __attribute__((used)) struct fault fault_##function = {0, 0, #function};
 #include "exports.h"
@@ -38,7 +39,8 @@ __asm__(".text\n"
         " movq pointed(%rip), %rdx\n"
         " testq %rdx, %rdx\n"
         " jz 1f\n"
-        " cmpq $0, second(%rip)\n"
+        " movq length(%rip), %r8\n"
+        " cmpq $0, (%r8)\n"
         " je 3f\n"
         " movq (%rdx), %rdx\n"
         " xorb $1, (%rdx)\n"
@@ -53,6 +55,10 @@ __asm__(".text\n"
             " movq %rdi, first(%rip)\n"                        \
             " movq %rsi, second(%rip)\n"                       \
             " movq %rdx, third(%rip)\n"                        \
+            " movq (%rsp), %rax\n"                             \
+            " movq %rax, seventh(%rip)\n"                      \
+            " movq 8(%rsp), %rax\n"                            \
+            " movq %rax, eighth(%rip)\n"                       \
             " call true_" #function "\n"                       \
             " pushq back_to(%rip)\n"                           \
             " leaq fault_" #function "(%rip), %rcx\n"          \
@@ -77,7 +83,8 @@ __asm__(".text\n"
         " b.lt 3f\n"
         GET("x11", "pointed")
         " cbz x11, 1f\n"
-        GET("x12", "second")
+        GET("x12", "length")
+        " ldr x12, [x12]\n"
         " cbz x12, 3f\n"
         " ldr x11, [x11]\n"
         " ldrb w12, [x11]\n"
@@ -92,6 +99,7 @@ __asm__(".text\n"
 #define EXPORT(function)                                              \
     __asm__(".globl " #function "\n" #function ":\n"                  \
             PUT("x30", "back_to") PUT("x0", "first") PUT("x1", "second") PUT("x2", "third") \
+            PUT("x6", "seventh") PUT("x7", "eighth")                  \
             " bl true_" #function "\n"                                \
             AT("fault_" #function)                                    \
             " mov x9, x10\n"                                          \
@@ -118,7 +126,8 @@ __attribute__((constructor)) static void ask(void) {
     const char *name = getenv("WRONG"), *at = getenv("AT"), *what = getenv("WHAT");
     if (!name || !at || !what)
         return;
-    pointed = !strcmp(what, "first") ? &first : !strcmp(what, "third") ? &third : NULL;
+    pointed = !strcmp(what, "first") ? &first : !strcmp(what, "third") ? &third : !strcmp(what, "seventh") ? &seventh : NULL;
+    length = pointed == &seventh ? &eighth : &second;
     for (size_t k = 0; k < COUNT; k++)
         if (!strcmp(name, faults[k]->name))
             faults[k]->at = atol(at);

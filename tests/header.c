@@ -66,6 +66,20 @@ static bool are_untouched(const size_t *at, size_t count) {
     return true;
 }
 
+static uint32_t *words(size_t count) {
+    return (uint32_t *)block(count * sizeof(uint32_t));
+}
+
+/* The same of hashes. */
+static bool are_left(const uint32_t *at, size_t count) {
+    for (size_t i = 0; i < count; i++) {
+        if (at[i] != 0x5a5a5a5a) {
+            return false;
+        }
+    }
+    return true;
+}
+
 /* Memory for a resolver with none in it. */
 static struct mz_resolver *lent(size_t text_len, size_t records_len) {
     struct mz_resolver *r = (struct mz_resolver *)block(sizeof *r);
@@ -124,6 +138,7 @@ static void layout(void) {
         {MZ_LAYOUT_LISTED, MZ_LISTED},
         {MZ_LAYOUT_NUMBER_SIZE, sizeof(size_t)},
         {MZ_LAYOUT_NUMBER_ALIGNMENT, offsetof(struct number, it)},
+        {MZ_LAYOUT_HASH_SIZE, sizeof(uint32_t)},
     };
     for (size_t what = 0; what < COUNT(wanted); what++) {
         size_t said = mz_layout(what);
@@ -164,14 +179,19 @@ static void names(void) {
 
 /* An iterator with so many places for keys, opened at a position. */
 struct reader {
-    size_t *starts, *ends, *state, places;
+    size_t *starts, *ends, *state, places[3];
+    uint32_t *hashes;
 };
 
-static struct reader opened(size_t places, size_t kind, size_t position) {
+/* Its key tables, which have each a length of its own. */
+static struct reader lent_keys(size_t starts, size_t ends, size_t hashes, size_t kind, size_t position) {
     struct reader it;
-    it.starts = numbers(places);
-    it.ends = numbers(places);
-    it.places = places;
+    it.starts = numbers(starts);
+    it.ends = numbers(ends);
+    it.hashes = words(hashes);
+    it.places[0] = starts;
+    it.places[1] = ends;
+    it.places[2] = hashes;
     it.state = numbers(MZ_STATE);
     it.state[0] = kind;
     it.state[1] = position;
@@ -179,7 +199,40 @@ static struct reader opened(size_t places, size_t kind, size_t position) {
     return it;
 }
 
-#define KEYS(it) (it).starts, (it).places, (it).ends, (it).places, (it).state
+static struct reader opened(size_t places, size_t kind, size_t position) {
+    return lent_keys(places, places, places, kind, position);
+}
+
+#define KEYS(it) (it).starts, (it).places[0], (it).ends, (it).places[1], (it).hashes, (it).places[2], (it).state
+
+/* One more recorded key. */
+static void record(struct reader it, size_t start, size_t end, uint32_t hash) {
+    size_t at = it.state[2]++;
+    it.starts[at] = start;
+    it.ends[at] = end;
+    it.hashes[at] = hash;
+}
+
+/* Whether all three tables are zeros, from the first place to the last. */
+static bool are_zeros(struct reader it) {
+    size_t set = 0;
+    for (size_t i = 0; i < it.places[0]; i++) {
+        set += it.starts[i] != 0;
+    }
+    for (size_t i = 0; i < it.places[1]; i++) {
+        set += it.ends[i] != 0;
+    }
+    for (size_t i = 0; i < it.places[2]; i++) {
+        set += it.hashes[i] != 0;
+    }
+    return set == 0;
+}
+
+/* Whether nothing was written to any of them from a place on. */
+static bool are_unused(struct reader it, size_t from) {
+    return are_untouched(it.starts + from, it.places[0] - from) && are_untouched(it.ends + from, it.places[1] - from) &&
+           are_left(it.hashes + from, it.places[2] - from);
+}
 
 static bool is_at(struct reader it, size_t kind, size_t position, size_t keys, size_t why) {
     return it.state[0] == kind && it.state[1] == position && it.state[2] == keys && it.state[3] == why;
@@ -214,6 +267,13 @@ static void each_answer(void) {
     one_answer("MZ_EMPTY", "a", true, empty, MZ_DONE, 0);
 }
 
+/* FNV-1a with 32 bits of a few names, and of two that share one. */
+#define HASH_A 0xe40c292cu
+#define HASH_B 0xe70c2de5u
+#define HASH_FOOBAR 0xbf9cf968u
+#define HASH_YACZF_GLBPP 0xaec12bf4u
+#define HASH_IX 0x8ab8d906u
+
 static void attributes(void) {
     const char *tag = "a=1 b='2' b=\"\" c";
     struct reader it = opened(MZ_KEYS, MZ_NEXT, 0);
@@ -229,32 +289,111 @@ static void attributes(void) {
          mz_read_batch(BYTES(tag), KEYS(it), false, true, out, 2 * MZ_ANSWER) == 1 &&
              is_answer(out, MZ_EXPECTED_EQ, 16, 0, 0, 0) && is_at(it, MZ_DONE, 0, 2, MZ_END));
     hold("mz_read_batch: keys", it.starts[0] == 0 && it.ends[0] == 1 && it.starts[1] == 4 && it.ends[1] == 5 &&
-                                    are_untouched(it.starts + 2, MZ_KEYS - 2));
+                                    it.hashes[0] == HASH_A && it.hashes[1] == HASH_B && are_unused(it, 2));
     it = opened(0, MZ_NEXT, 15);
     hold("mz_read_batch: HTML mode, checks off, and no place for a key",
          mz_read_batch(BYTES(tag), KEYS(it), true, false, out, 2 * MZ_ANSWER) == 1 &&
              is_answer(out, MZ_EMPTY, 15, 16, 0, 0) && is_at(it, MZ_DONE, 0, 0, MZ_END));
     it = opened(MZ_KEYS, MZ_SKIP_VALUE, 16);
     hold("MZ_BAD_STATE", mz_read_batch(BYTES(tag), KEYS(it), false, true, out, 2 * MZ_ANSWER) == 1 &&
-                             is_answer(out, MZ_BAD_STATE, 0, 0, 0, 0) && is_at(it, MZ_DONE, 0, 0, MZ_END) &&
-                             it.starts[MZ_KEYS - 1] == 0 && it.ends[0] == 0);
+                             is_answer(out, MZ_BAD_STATE, 0, 0, 0, 0) && is_at(it, MZ_DONE, 0, 0, MZ_END) && are_zeros(it));
     it = opened(MZ_KEYS, MZ_SKIP_FROM_EQ, 0);
     hold("MZ_SKIP_FROM_EQ: a byte that is none",
          mz_read_batch(BYTES(tag), KEYS(it), false, true, out, MZ_ANSWER) == 1 && out[0] == MZ_BAD_STATE);
     it = opened(MZ_KEYS + 1, MZ_NEXT, 0);
-    hold("MZ_NONE", mz_read_batch(BYTES(tag), KEYS(it), false, true, out, MZ_ANSWER) == MZ_NONE &&
-                        are_untouched(it.starts, MZ_KEYS + 1) && it.state[0] == MZ_NEXT);
+    hold("MZ_NONE", mz_read_batch(BYTES(tag), KEYS(it), false, true, out, MZ_ANSWER) == MZ_NONE && are_unused(it, 0) &&
+                        it.state[0] == MZ_NEXT);
+    for (size_t table = 0; table < 3; table++) {
+        it = lent_keys(table == 0 ? MZ_KEYS + 1 : 1, table == 1 ? MZ_KEYS + 1 : 1, table == 2 ? MZ_KEYS + 1 : 1, MZ_NEXT, 0);
+        hold("MZ_NONE: one table", mz_read_batch(BYTES(tag), KEYS(it), false, false, out, MZ_ANSWER) == MZ_NONE &&
+                                       are_unused(it, 0) && is_at(it, MZ_NEXT, 0, 0, untouched()));
+    }
     out = numbers(MZ_ANSWER - 1);
     it = opened(1, MZ_SKIP_VALUE, SIZE_MAX);
     hold("mz_read_batch: no room for an answer",
          mz_read_batch(BYTES(tag), KEYS(it), false, true, out, MZ_ANSWER - 1) == 0 &&
-             are_untouched(out, MZ_ANSWER - 1) && are_untouched(it.starts, 1) &&
-             is_at(it, MZ_SKIP_VALUE, SIZE_MAX, 0, untouched()));
+             are_untouched(out, MZ_ANSWER - 1) && are_unused(it, 0) && is_at(it, MZ_SKIP_VALUE, SIZE_MAX, 0, untouched()));
+}
+
+/* Whether a state is answered by MZ_BAD_STATE, and all three tables are zeros then. */
+static bool is_bad(const char *tag, struct reader it, bool checks) {
+    size_t *out = numbers(MZ_ANSWER);
+    return mz_read_batch(BYTES(tag), KEYS(it), false, checks, out, MZ_ANSWER) == 1 && is_answer(out, MZ_BAD_STATE, 0, 0, 0, 0) &&
+           is_at(it, MZ_DONE, 0, 0, MZ_OUT_FULL) && are_zeros(it);
+}
+
+/* The kept hashes: what is written of them, which of them are read, and that two names may have one. */
+static void hashes(void) {
+    const char *tag = "a='' foobar='' a='' b='' c", *shared = "yaczf='' glbpp='' yaczf='' glbpp=''";
+    const uint32_t unused[] = {0, 1, UINT32_MAX, HASH_A, HASH_FOOBAR};
+    struct reader it = opened(MZ_KEYS, MZ_NEXT, 0);
+    size_t *out = numbers(4 * MZ_ANSWER);
+#define READ(tag, checks, count) mz_read_batch(BYTES(tag), KEYS(it), false, checks, out, (count) * MZ_ANSWER)
+    hold("a key is recorded", READ(tag, true, 1) == 1 && it.hashes[0] == HASH_A && are_unused(it, 1));
+    hold("one more", READ(tag, true, 1) == 1 && it.hashes[0] == HASH_A && it.hashes[1] == HASH_FOOBAR && are_unused(it, 2));
+    hold("MZ_DUPLICATED writes none", READ(tag, true, 1) == 1 && is_answer(out, MZ_DUPLICATED, 15, 0, 0, 0) && are_unused(it, 2) &&
+                                          it.state[2] == 2);
+    hold("with checks off none is written", READ(tag, false, 1) == 1 && is_answer(out, MZ_SINGLE_Q, 20, 21, 23, 23) &&
+                                                are_unused(it, 2) && it.state[2] == 2);
+    hold("a bare key writes none", READ(tag, true, 1) == 1 && is_answer(out, MZ_EXPECTED_EQ, 26, 0, 0, 0) && are_unused(it, 2));
+    it = opened(4, MZ_NEXT, 0);
+    hold("names of one hash", READ(shared, true, 4) == 4 && is_answer(out, MZ_SINGLE_Q, 0, 5, 7, 7) &&
+                                  is_answer(out + MZ_ANSWER, MZ_SINGLE_Q, 9, 14, 16, 16) &&
+                                  is_answer(out + 2 * MZ_ANSWER, MZ_DUPLICATED, 18, 0, 0, 0) &&
+                                  is_answer(out + 3 * MZ_ANSWER, MZ_DUPLICATED, 27, 9, 0, 0));
+    hold("their hashes", it.hashes[0] == HASH_YACZF_GLBPP && it.hashes[1] == HASH_YACZF_GLBPP && are_unused(it, 2) && it.state[2] == 2);
+    for (size_t checks = 0; checks < 2; checks++) {
+        for (size_t index = 0; index < 2; index++) {
+            for (size_t bit = 0; bit < 32; bit++) {
+                it = opened(bit == 31 ? MZ_KEYS : 3, MZ_NEXT, 5);
+                record(it, 0, 1, HASH_A);
+                record(it, 5, 11, HASH_FOOBAR);
+                it.hashes[index] ^= (uint32_t)1 << bit;
+                hold("a hash that is not its key's", is_bad(tag, it, checks == 1));
+            }
+        }
+        it = opened(3, MZ_DONE, 0);
+        record(it, 0, 1, HASH_B);
+        hold("a hash that is not its key's, where reading has ended", is_bad(tag, it, checks == 1));
+        for (size_t value = 0; value < COUNT(unused); value++) {
+            it = opened(3, MZ_NEXT, 5);
+            record(it, 0, 1, HASH_A);
+            it.hashes[1] = it.hashes[2] = unused[value];
+            hold("hashes that are not in use", READ(tag, checks == 1, 1) == 1 && is_answer(out, MZ_SINGLE_Q, 5, 11, 13, 13) &&
+                                                   it.hashes[0] == HASH_A && it.hashes[2] == unused[value] &&
+                                                   it.hashes[1] == (checks == 1 ? HASH_FOOBAR : unused[value]));
+        }
+    }
+#undef READ
+}
+
+/* Key tables of different lengths are as long as the shortest; it is a bad state that has more keys. */
+static void shortest(void) {
+    const char *tag = "a='' b='' foobar=''";
+    for (size_t table = 0; table < 3; table++) {
+        size_t *out = numbers(3 * MZ_ANSWER);
+        struct reader it = lent_keys(table == 0 ? 1 : 3, table == 1 ? 1 : MZ_KEYS, table == 2 ? 1 : 2, MZ_NEXT, 0);
+        hold("the shortest table", mz_read_batch(BYTES(tag), KEYS(it), false, true, out, 3 * MZ_ANSWER) == 1 &&
+                                       is_answer(out, MZ_SINGLE_Q, 0, 1, 3, 3) && is_at(it, MZ_NEXT, 4, 1, MZ_MORE_KEYS) &&
+                                       it.hashes[0] == HASH_A && are_unused(it, 1));
+        it.state[2] = 2;
+        hold("more keys than the shortest table has places", is_bad(tag, it, table == 1));
+        it = lent_keys(table == 0 ? 0 : 3, table == 1 ? 0 : 1, table == 2 ? 0 : MZ_KEYS, MZ_NEXT, 0);
+        hold("a table of no place", mz_read_batch(BYTES(tag), KEYS(it), false, true, out, 3 * MZ_ANSWER) == 0 &&
+                                        is_at(it, MZ_NEXT, 0, 0, MZ_MORE_KEYS) && are_unused(it, 0) &&
+                                        mz_read_batch(BYTES(tag), KEYS(it), false, false, out, 3 * MZ_ANSWER) == 3 && are_unused(it, 0));
+    }
+    for (size_t more = 0; more < 3; more++) {
+        struct reader it = opened(MZ_KEYS, MZ_NEXT, 0);
+        const size_t counts[] = {MZ_KEYS + 1, MZ_KEYS + 2, SIZE_MAX};
+        it.state[2] = counts[more];
+        hold("more keys than there can be", is_bad(tag, it, more == 1));
+    }
 }
 
 /* A tag of so many attributes of different names, and one more of the first name. */
 static char *many(size_t count) {
-    char *tag = (char *)block(8 * (count + 1) + 1);
+    char *tag = (char *)block(7 * (count + 1) + 1);
     size_t len = 0;
     for (size_t n = 0; n <= count; n++) {
         len += (size_t)sprintf(tag + len, " %03lx=''", (unsigned long)(n % count));
@@ -271,28 +410,32 @@ static void more_keys(void) {
                                            all[MZ_KEYS * MZ_ANSWER] == MZ_DUPLICATED &&
                                            is_at(full, MZ_SKIP_FROM_EQ, 7 * MZ_KEYS + 4, MZ_KEYS, MZ_END));
     do {
-        size_t places = it.places == 0 ? 1 : 2 * it.places;
+        size_t had = it.places[0], places = had == 0 ? 1 : 2 * had;
         struct reader longer = opened(places > MZ_KEYS ? MZ_KEYS : places, it.state[0], it.state[1]);
         size_t got = mz_read_batch(BYTES(tag), KEYS(it), false, true, out + read * MZ_ANSWER, room - read * MZ_ANSWER);
         read += got;
-        hold("mz_read_batch: keys that have no place", got <= MZ_KEYS + 1 && it.state[2] <= it.places);
+        hold("mz_read_batch: keys that have no place", got <= MZ_KEYS + 1 && it.state[2] <= had);
         if (it.state[3] != MZ_MORE_KEYS) {
             break;
         }
-        hold("MZ_MORE_KEYS", it.state[2] == it.places && it.places < MZ_KEYS);
-        memcpy(longer.starts, it.starts, it.places * sizeof(size_t));
-        memcpy(longer.ends, it.ends, it.places * sizeof(size_t));
+        hold("MZ_MORE_KEYS", it.state[2] == had && had < MZ_KEYS);
+        memcpy(longer.starts, it.starts, had * sizeof(size_t));
+        memcpy(longer.ends, it.ends, had * sizeof(size_t));
+        memcpy(longer.hashes, it.hashes, had * sizeof(uint32_t));
         memcpy(longer.state, it.state, MZ_STATE * sizeof(size_t));
         it = longer;
-    } while (it.places <= MZ_KEYS);
+    } while (it.places[0] <= MZ_KEYS);
     hold("MZ_END", read == MZ_KEYS + 1 && !memcmp(out, all, room * sizeof(size_t)) &&
                        is_at(it, MZ_SKIP_FROM_EQ, 7 * MZ_KEYS + 4, MZ_KEYS, MZ_END) &&
                        !memcmp(it.starts, full.starts, MZ_KEYS * sizeof(size_t)) &&
-                       !memcmp(it.ends, full.ends, MZ_KEYS * sizeof(size_t)));
+                       !memcmp(it.ends, full.ends, MZ_KEYS * sizeof(size_t)) &&
+                       !memcmp(it.hashes, full.hashes, MZ_KEYS * sizeof(uint32_t)));
     full = opened(MZ_KEYS, MZ_NEXT, 0);
     tag = many(MZ_KEYS + 1);
     hold("MZ_KEY_TABLE_FULL", mz_read_batch(BYTES(tag), KEYS(full), false, true, all, room) == MZ_KEYS + 1 &&
-                                  is_answer(all + MZ_KEYS * MZ_ANSWER, MZ_KEY_TABLE_FULL, 7 * MZ_KEYS + 1, 0, 0, 0));
+                                  is_answer(all + MZ_KEYS * MZ_ANSWER, MZ_KEY_TABLE_FULL, 7 * MZ_KEYS + 1, 0, 0, 0) &&
+                                  is_at(full, MZ_DONE, 0, MZ_KEYS, MZ_END) &&
+                                  !memcmp(it.hashes, full.hashes, MZ_KEYS * sizeof(uint32_t)));
 }
 
 /* ---- Scopes ---- */
@@ -342,19 +485,34 @@ static void nil(struct mz_resolver *r) {
 #define HAS_NIL(r, it) mz_has_nil(MZ_PASS(r), BYTES(tag), KEYS(it), false, true)
     hold("mz_has_nil: yes", HAS_NIL(*r, it) == 1 && is_at(it, MZ_NEXT, 32, 3, untouched()));
     hold("mz_has_nil: no", HAS_NIL(*r, it) == 0 && is_at(it, MZ_SKIP_FROM_EQ, 46, 4, untouched()) && it.starts[3] == 33 &&
-                               it.ends[3] == 36);
+                               it.ends[3] == 36 && it.hashes[3] == HASH_IX);
+    before = lent_keys(6, 5, MZ_KEYS, MZ_NEXT, 1);
+    hold("mz_has_nil: what is not in use", HAS_NIL(*r, before) == 1 && before.hashes[0] == it.hashes[0] &&
+                                               before.hashes[2] == it.hashes[2] && are_unused(before, 3));
+    before = lent_keys(6, 5, 2, MZ_NEXT, 1);
+    hold("mz_has_nil: a hash that has no place", HAS_NIL(*r, before) == MZ_LEND_MORE && is_at(before, MZ_NEXT, 1, 0, untouched()) &&
+                                                     are_unused(before, 0));
+    for (size_t checks = 0; checks < 2; checks++) {
+        before = opened(3, MZ_NEXT, 32);
+        record(before, 33, 36, HASH_IX ^ 1);
+        hold("mz_has_nil: a hash that is not its key's",
+             mz_has_nil(MZ_PASS(*r), BYTES(tag), KEYS(before), false, checks == 1) == MZ_BAD_STATE &&
+                 is_at(before, MZ_DONE, 0, 0, untouched()) && are_zeros(before));
+    }
     before = opened(2, MZ_NEXT, 1);
     hold("mz_has_nil: a key that has no place", HAS_NIL(*r, before) == MZ_LEND_MORE && is_at(before, MZ_NEXT, 1, 0, untouched()) &&
-                                                    are_untouched(before.starts, 2) && are_untouched(before.ends, 2));
-    before = opened(MZ_KEYS + 1, MZ_NEXT, 1);
-    hold("mz_has_nil: a wrong length", HAS_NIL(*r, before) == MZ_WRONG_LENGTH && are_untouched(before.starts, MZ_KEYS + 1));
+                                                    are_unused(before, 0));
+    for (size_t table = 0; table < 3; table++) {
+        before = lent_keys(table == 0 ? MZ_KEYS + 1 : 4, table == 1 ? MZ_KEYS + 1 : 4, table == 2 ? MZ_KEYS + 1 : 4, MZ_NEXT, 1);
+        hold("mz_has_nil: a wrong length", HAS_NIL(*r, before) == MZ_WRONG_LENGTH && are_unused(before, 0));
+    }
     it.state[0] = MZ_SKIP_VALUE;
     it.state[1] = SIZE_MAX;
     r->head[0]++;
     hold("mz_has_nil: no resolver", HAS_NIL(*r, it) == MZ_BAD_RESOLVER && is_at(it, MZ_SKIP_VALUE, SIZE_MAX, 4, untouched()) &&
                                         it.starts[3] == 33);
     r->head[0]--;
-    hold("mz_has_nil: a bad state", HAS_NIL(*r, it) == MZ_BAD_STATE && is_at(it, MZ_DONE, 0, 0, untouched()) && it.starts[3] == 0);
+    hold("mz_has_nil: a bad state", HAS_NIL(*r, it) == MZ_BAD_STATE && is_at(it, MZ_DONE, 0, 0, untouched()) && are_zeros(it));
 #undef HAS_NIL
     hold("mz_pop: after nil", mz_pop(MZ_PASS(*r)) == 0);
 }
@@ -533,7 +691,7 @@ static void far(struct mz_resolver *r, size_t position) {
         it.starts[0] = bound == 0 ? 0 : position;
         it.ends[0] = bound == 1 ? position + 1 : position;
         hold("far: a recorded key", mz_read_batch(BYTES(tag), KEYS(it), false, true, out, MZ_ANSWER) == 1 &&
-                                        is_answer(out, MZ_BAD_STATE, 0, 0, 0, 0) && it.starts[0] == 0 && it.ends[1] == 0);
+                                        is_answer(out, MZ_BAD_STATE, 0, 0, 0, 0) && are_zeros(it));
     }
     it = opened(2, MZ_NEXT, 0);
     it.state[2] = position;
@@ -573,21 +731,21 @@ static void empty_and_null(void) {
     hold("null: names", mz_split(NONE) == 0 && mz_declares(NONE) == 0 && !mz_is_xml(NONE) && !mz_is_xmlns(NONE));
     hold("null: mz_verdict", mz_verdict(NONE, NONE) == 2 && mz_verdict(BYTES("xmlns"), NONE) == 1);
     hold("null: mz_as_bool", mz_as_bool(NONE) == 2);
-    hold("null: a tag", mz_read_batch(NONE, NONE, NONE, it.state, false, true, NONE) == 0 && it.state[0] == MZ_NEXT &&
-                            mz_read_batch(NONE, NONE, NONE, it.state, false, true, out, MZ_ANSWER) == 0 &&
+    hold("null: a tag", mz_read_batch(NONE, NONE, NONE, NONE, it.state, false, true, NONE) == 0 && it.state[0] == MZ_NEXT &&
+                            mz_read_batch(NONE, NONE, NONE, NONE, it.state, false, true, out, MZ_ANSWER) == 0 &&
                             is_at(it, MZ_DONE, 0, 0, MZ_END));
     it.state[0] = MZ_NEXT;
     it.state[1] = SIZE_MAX;
-    hold("null: a tag from far behind", mz_read_batch(NONE, NONE, NONE, it.state, true, true, out, MZ_ANSWER) == 0 &&
+    hold("null: a tag from far behind", mz_read_batch(NONE, NONE, NONE, NONE, it.state, true, true, out, MZ_ANSWER) == 0 &&
                                             is_at(it, MZ_NEXT, SIZE_MAX, 0, MZ_END));
     it.state[2] = SIZE_MAX;
-    hold("null: more keys than places", mz_read_batch(NONE, NONE, NONE, it.state, true, true, out, MZ_ANSWER) == 1 &&
+    hold("null: more keys than places", mz_read_batch(NONE, NONE, NONE, NONE, it.state, true, true, out, MZ_ANSWER) == 1 &&
                                             out[0] == MZ_BAD_STATE && is_at(it, MZ_DONE, 0, 0, MZ_OUT_FULL));
     it.state[0] = SIZE_MAX;
-    hold("null: a kind that is none", mz_read_batch(NONE, NONE, NONE, it.state, true, true, out, MZ_ANSWER) == 1 &&
+    hold("null: a kind that is none", mz_read_batch(NONE, NONE, NONE, NONE, it.state, true, true, out, MZ_ANSWER) == 1 &&
                                           out[0] == MZ_BAD_STATE && is_at(it, MZ_DONE, 0, 0, MZ_OUT_FULL));
     it.state[1] = SIZE_MAX;
-    hold("null: a position beside done", mz_read_batch(NONE, NONE, NONE, it.state, true, true, out, MZ_ANSWER) == 0 &&
+    hold("null: a position beside done", mz_read_batch(NONE, NONE, NONE, NONE, it.state, true, true, out, MZ_ANSWER) == 0 &&
                                              is_at(it, MZ_DONE, SIZE_MAX, 0, MZ_END));
     hold("null: a resolver", mz_fresh(MZ_PASS(nothing)) == MZ_LEND_MORE && mz_pop(MZ_PASS(nothing)) == MZ_BAD_RESOLVER &&
                                  mz_resolve(MZ_PASS(nothing), NONE, true, d) == MZ_BAD_RESOLVER && is_told(d, 0, 0));
@@ -602,7 +760,7 @@ static void empty_and_null(void) {
     hold("null: mz_binding", mz_binding(MZ_PASS(*r), 0, listed) == 0 && listed[4] == 0);
     it.state[0] = MZ_NEXT;
     it.state[1] = 0;
-    hold("null: mz_has_nil", mz_has_nil(MZ_PASS(*r), NONE, NONE, NONE, it.state, false, true) == 0 && it.state[0] == MZ_DONE);
+    hold("null: mz_has_nil", mz_has_nil(MZ_PASS(*r), NONE, NONE, NONE, NONE, it.state, false, true) == 0 && it.state[0] == MZ_DONE);
 }
 
 int main(void) {
@@ -613,6 +771,8 @@ int main(void) {
     names();
     each_answer();
     attributes();
+    hashes();
+    shortest();
     more_keys();
     refusals();
     scopes();

@@ -1,10 +1,10 @@
 //! A program that is linked with a library of another layout: its own `mz_layout` stands for that. Whatever
 //! it does first with memory, the crate has to refuse; the word says what.
 
-use mezzulidda::events::attributes::Attributes;
+use mezzulidda::events::attributes::{Attributes, Tables};
 use mezzulidda::name::{Memory, NamespaceResolver};
 
-const LAYOUT: [usize; 11] = [256, 4, 5, 65_535, 1_026, 4, 4, 2, 5, 8, 4];
+const LAYOUT: [usize; 12] = [Tables::KEYS, 4, 5, 65_535, 1_026, 4, 4, 2, 5, 8, 4, 4];
 
 #[unsafe(no_mangle)]
 extern "C" fn mz_layout(what: usize) -> usize {

@@ -257,12 +257,13 @@ pub fn resolve_all_of(scope: &mut Scope, lens: [usize; 5]) -> usize {
     }
 }
 
-/// The library's search for `nil` in a tag, with an iterator in three arrays: starts and ends of recorded
-/// keys, and its numbers.
+/// The library's search for `nil` in a tag, with an iterator in four arrays: starts and ends of recorded
+/// keys, and its numbers; and the keys' hashes.
 pub fn has_nil(
     scope: &mut Scope,
     tag: &str,
     [starts, ends, numbers]: [&mut Vec<usize>; 3],
+    hashes: &mut [u32],
     html: bool,
     checks: bool,
 ) -> usize {
@@ -276,6 +277,8 @@ pub fn has_nil(
         starts.len(),
         ends.as_mut_ptr(),
         ends.len(),
+        hashes.as_mut_ptr(),
+        hashes.len(),
         numbers.as_mut_ptr(),
         html,
         checks

@@ -1,13 +1,14 @@
 //! Searches for `nil`: the iterator that is lent for them, and the tags and scopes that they are made in.
 
 use crate::cases::Lcg;
+use crate::hash::hash;
 use crate::lent::{self, Scope, UNTOUCHED, cut};
-use crate::library::mz_read_batch;
+use crate::library::{KEYS, mz_read_batch};
 use oracle::steps::{Place, Reader};
 use std::ops::Range;
 
-/// The most keys that the library records.
-pub const KEYS: usize = 256;
+/// What stands in a place for a hash that a call has to leave alone.
+const UNTOUCHED_HASH: u32 = 0x5a5a_5a5a;
 /// The namespace of `nil`.
 pub const INSTANCE: &str = "http://www.w3.org/2001/XMLSchema-instance";
 
@@ -42,25 +43,36 @@ impl<'t> Tag<'t> {
 pub struct Cursor {
     pub starts: Vec<usize>,
     pub ends: Vec<usize>,
+    pub hashes: Vec<u32>,
     pub numbers: Vec<usize>,
 }
 
+/// How many places each key table has.
+pub type Places = [usize; 3];
+
 impl Cursor {
     pub fn opened(position: usize) -> Self {
-        Cursor::at([1, position], &[])
+        Cursor::at("", [1, position], &[])
     }
 
-    pub fn at([kind, position]: [usize; 2], keys: &[Range<usize>]) -> Self {
+    pub fn at(tag: &str, [kind, position]: [usize; 2], keys: &[Range<usize>]) -> Self {
         let mut cursor = Cursor {
             starts: vec![UNTOUCHED; KEYS],
             ends: vec![UNTOUCHED; KEYS],
+            hashes: vec![UNTOUCHED_HASH; KEYS],
             numbers: vec![kind, position, keys.len(), UNTOUCHED],
         };
         for (index, key) in keys.iter().enumerate().take(KEYS) {
-            cursor.starts[index] = key.start;
-            cursor.ends[index] = key.end;
+            cursor.put(index, tag, key);
         }
         cursor
+    }
+
+    /// A key stands at an index, with its hash; one that is not in the tag has any.
+    fn put(&mut self, index: usize, tag: &str, key: &Range<usize>) {
+        self.starts[index] = key.start;
+        self.ends[index] = key.end;
+        self.hashes[index] = hash(tag.as_bytes().get(key.clone()).unwrap_or_default());
     }
 
     /// What 7 leaves.
@@ -68,28 +80,30 @@ impl Cursor {
         Cursor {
             starts: vec![0; self.starts.len()],
             ends: vec![0; self.ends.len()],
+            hashes: vec![0; self.hashes.len()],
             numbers: vec![0, 0, 0, self.numbers[3]],
         }
     }
 
     /// The same with key tables of these lengths, and what stands in unused places behind.
-    pub fn with_places(&self, starts: usize, ends: usize) -> Self {
+    pub fn with_places(&self, [starts, ends, hashes]: Places) -> Self {
         let mut cursor = self.clone();
         cursor.starts.resize(starts, UNTOUCHED);
         cursor.ends.resize(ends, UNTOUCHED);
+        cursor.hashes.resize(hashes, UNTOUCHED_HASH);
         // so that an access beyond them is one beyond what was allocated
         cursor.starts.shrink_to_fit();
         cursor.ends.shrink_to_fit();
+        cursor.hashes.shrink_to_fit();
         cursor
     }
 
     /// This one as it has to stand where the crate's reader has gone on to: keys are added behind those
     /// that are recorded, and all other places are as they were.
-    pub fn gone_on(&self, reader: &Reader) -> Self {
+    pub fn gone_on(&self, tag: &str, reader: &Reader) -> Self {
         let mut cursor = self.clone();
         for (index, key) in reader.keys().iter().enumerate() {
-            cursor.starts[index] = key.start;
-            cursor.ends[index] = key.end;
+            cursor.put(index, tag, key);
         }
         let [kind, position] = reader.place().numbers();
         cursor.numbers[..3].copy_from_slice(&[kind, position, reader.keys().len()]);
@@ -100,14 +114,14 @@ impl Cursor {
     pub fn search(&mut self, scope: &mut Scope, tag: Tag) -> usize {
         let Tag { text, html, checks } = tag;
         let arrays = [&mut self.starts, &mut self.ends, &mut self.numbers];
-        lent::has_nil(scope, text, arrays, html, checks)
+        lent::has_nil(scope, text, arrays, &mut self.hashes, html, checks)
     }
 
     /// One answer of the library's batch is taken.
     pub fn step(&mut self, tag: Tag) {
         let mut out = [0; 5];
         // SAFETY: each pointer is that of a live array or slice of the length after it, or of the four numbers
-        // of a state; the tag is only read, and the four that are written are borrowed mutably and apart from
+        // of a state; the tag is only read, and the five that are written are borrowed mutably and apart from
         // each other.
         unsafe {
             mz_read_batch(
@@ -117,6 +131,8 @@ impl Cursor {
                 self.starts.len(),
                 self.ends.as_mut_ptr(),
                 self.ends.len(),
+                self.hashes.as_mut_ptr(),
+                self.hashes.len(),
                 self.numbers.as_mut_ptr(),
                 tag.html,
                 tag.checks,
@@ -129,13 +145,16 @@ impl Cursor {
     pub fn shown(&self) -> String {
         let count = self.numbers.get(2).copied().unwrap_or_default();
         let keys: Vec<_> = (0..count.min(6))
-            .filter_map(|index| Some((self.starts.get(index)?, self.ends.get(index)?)))
+            .filter_map(|index| {
+                let bounds = (self.starts.get(index)?, self.ends.get(index)?);
+                Some((bounds, self.hashes.get(index)?))
+            })
             .collect();
         format!("{:?}, the first keys {keys:?}", self.numbers)
     }
 }
 
-/// Document 01's 7: a recorded key that is empty or not inside the tag, more than 256 keys, a skip place
+/// Document 01's 7: a recorded key that is empty or not inside the tag, more keys than can be recorded, a skip place
 /// not inside the tag, or a skip-from-`=` place whose byte is not `=`.
 pub fn is_bad(tag: &str, place: Place, keys: &[Range<usize>]) -> bool {
     let bad_place = match place {

@@ -11,7 +11,8 @@ use crate::due::{RECORDS, TEXT};
 use crate::lent::{
     BUILT_IN, BUILT_IN_TEXT, Call, LEND_MORE, NUMBERS, ROW, Scope, UNTOUCHED, WRONG_LENGTH,
 };
-use crate::nil::{self, Cursor, KEYS, Tag};
+use crate::library::KEYS;
+use crate::nil::{self, Cursor, Tag};
 use crate::{Extent, SEED, Tally};
 use oracle::NamespaceResolver;
 
@@ -165,34 +166,35 @@ fn hold_places(lcg: &mut Lcg, scope: &Scope, tally: &mut Tally) -> Result<(), St
     let (place, keys) = nil::drawn_state(lcg, &text);
     let from = match lcg.chance(60) {
         true => Cursor::opened(at),
-        false => Cursor::at(place.numbers(), &keys),
+        false => Cursor::at(&text, place.numbers(), &keys),
     };
     let (mut whole, mut untouched) = (from.clone(), scope.clone());
     let code = whole.search(&mut untouched, tag);
     let counts = [from.numbers[2], whole.numbers[2], whole.numbers[2]];
     for round in 0..6 {
-        let [mut starts, mut ends] = [(); 2].map(|()| near(lcg, &counts, KEYS).min(KEYS));
+        let mut lengths = [(); 3].map(|()| near(lcg, &counts, KEYS).min(KEYS));
         if lcg.chance(70) {
-            starts = ends;
+            lengths = [lengths[0]; 3];
         }
         if round == 0 {
-            [starts, ends] = [KEYS; 2];
+            lengths = [KEYS; 3];
         }
-        let mut ours = from.with_places(starts, ends);
+        let mut ours = from.with_places(lengths);
         let before = ours.clone();
         let got = ours.search(&mut untouched, tag);
-        let places = starts.min(ends);
+        let places = lengths.into_iter().fold(KEYS, usize::min);
         let (due, wanted) = match code {
             20 => (20, before.clone()),
             _ if from.numbers[2] > places => (7, before.zeroed()),
             7 => (7, before.zeroed()),
             _ if whole.numbers[2] > places => (LEND_MORE, before.clone()),
             _ => {
-                // unused places of either table are as they were
+                // unused places of each table are as they were
                 let mut left = before.clone();
                 let recorded = whole.numbers[2];
                 left.starts[..recorded].copy_from_slice(&whole.starts[..recorded]);
                 left.ends[..recorded].copy_from_slice(&whole.ends[..recorded]);
+                left.hashes[..recorded].copy_from_slice(&whole.hashes[..recorded]);
                 left.numbers.clone_from(&whole.numbers);
                 (code, left)
             }
@@ -202,7 +204,7 @@ fn hold_places(lcg: &mut Lcg, scope: &Scope, tally: &mut Tally) -> Result<(), St
         tally.lend_more += usize::from(due == LEND_MORE);
         if got != due || ours != wanted || untouched != *scope {
             return Err(format!(
-                "has_nil {} with {starts} and {ends} places, from {}: ours {got} leaving {}, wanted {due} leaving {}",
+                "has_nil {} with {lengths:?} places, from {}: ours {got} leaving {}, wanted {due} leaving {}",
                 tag.shown(),
                 before.shown(),
                 ours.shown(),

@@ -30,11 +30,21 @@ pub fn drawn(lcg: &mut Lcg, alphabet: &[u8], len: usize) -> Vec<u8> {
         .collect()
 }
 
+/// Pairs of names that have one hash, by FNV-1a with 32 bits; so have two that go on alike.
+pub const SHARED: [[&str; 2]; 4] = [
+    ["yaczf", "glbpp"],
+    ["yzfzf", "geepp"],
+    ["yomzf", "gvlpp"],
+    ["gtbxf", "yicrp"],
+];
+
 /// What a long tag is made of: so many attributes, of which so many in a hundred repeat an earlier
-/// key, and so many have a damaged value or none. `wild` puts bytes in that are no UTF-8.
+/// key, so many of the others share the hash of one beside them, and so many have a damaged value or none. `wild` puts
+/// bytes in that are no UTF-8.
 pub struct Shape {
     pub attributes: usize,
     pub repeated: usize,
+    pub shared: usize,
     pub damaged: usize,
     pub wild: bool,
 }
@@ -47,6 +57,8 @@ pub fn long_tag(lcg: &mut Lcg, shape: &Shape) -> Vec<u8> {
         let repeats = !keys.is_empty() && lcg.chance(shape.repeated);
         let key = match repeats {
             true => keys[lcg.below(keys.len())].clone(),
+            // where none is wanted nothing is drawn
+            false if shape.shared > 0 && lcg.chance(shape.shared) => shared_key(lcg, index),
             false => fresh_key(lcg, index, shape.wild),
         };
         tag.extend_from_slice(
@@ -60,6 +72,12 @@ pub fn long_tag(lcg: &mut Lcg, shape: &Shape) -> Vec<u8> {
         }
     }
     tag
+}
+
+// One of two keys of one hash, which end in the half of their index.
+fn shared_key(lcg: &mut Lcg, index: usize) -> Vec<u8> {
+    let pair = SHARED[lcg.below(SHARED.len())];
+    format!("{}{}", pair[index % 2], index / 2).into_bytes()
 }
 
 // A key that ends in its index, so that it differs from those of other indices.

@@ -298,6 +298,7 @@ fn long(lcg: &mut Lcg, index: usize) -> Case {
         &Shape {
             attributes,
             repeated,
+            shared: 0,
             damaged,
             wild: false,
         },

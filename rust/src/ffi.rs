@@ -5,20 +5,26 @@
 //! mean is said where they are taken apart, in `events::attributes` and `name`.
 
 use crate::LentError;
-use crate::library;
+use crate::library::{self, KEYS};
 use crate::memory::{Lent, Memory, View};
 use alloc::boxed::Box;
 use alloc::format;
 use alloc::string::String;
 use alloc::vec::Vec;
 use core::mem::MaybeUninit;
+use core::slice;
 use core::sync::atomic::{AtomicBool, Ordering};
 
-/// How many keys of a tag can be recorded, for how many there are places inside an iterator, and how many
-/// answers are read ahead.
-const KEYS: usize = 256;
+/// For how many keys there are places inside an iterator, and how many answers are read ahead there. An iterator stands
+/// on the stack, once for each open tag where a program goes from tag to tag by recursion: with 16 answers in the place of
+/// 8 it would have 1.4 KB, and 1,500 of them no room in 2 MB.
 const FEW: usize = 32;
-pub const BATCH: usize = 8;
+const BATCH: usize = 8;
+
+/// How many answers are read ahead at most, where there is room on the heap or in lent tables. On the heap there are more where
+/// the recorded keys are long: one for each `HASHED` bytes of them.
+const MOST: usize = 256;
+const HASHED: usize = 256;
 
 /// How many bindings and how many bytes of text a resolver holds.
 pub const RECORDS: usize = 1_026;
@@ -32,7 +38,8 @@ type State = [usize; 4];
 const MORE_KEYS: usize = 2;
 
 /// An answer about a tag: what it is, and up to four positions.
-pub type Answer = [usize; 5];
+pub type Answer = [usize; ANSWER];
+const ANSWER: usize = 5;
 
 /// A binding in a resolver's memory: where its text starts, the lengths of prefix and namespace, its level.
 pub type Record = [usize; 4];
@@ -53,10 +60,10 @@ pub const NAMES: usize = 16;
 const NUMBER: usize = size_of::<usize>();
 
 /// What this crate takes for granted of the library, in the order in which `mz_layout` numbers it.
-const LAYOUT: [(&str, usize); 11] = [
+const LAYOUT: [(&str, usize); 12] = [
     ("key places of a table", KEYS),
     ("numbers of a state", size_of::<State>() / NUMBER),
-    ("numbers of an answer", size_of::<Answer>() / NUMBER),
+    ("numbers of an answer", ANSWER),
     ("bytes of text", TEXT),
     ("records", RECORDS),
     ("numbers of a record", size_of::<Record>() / NUMBER),
@@ -68,6 +75,7 @@ const LAYOUT: [(&str, usize); 11] = [
     ),
     ("bytes of a number", NUMBER),
     ("alignment of a number", align_of::<usize>()),
+    ("bytes of a hash", size_of::<u32>()),
 ];
 
 /// Whether the layouts were compared, and agree.
@@ -135,15 +143,15 @@ pub fn as_bool(value: &str) -> usize {
     unsafe { library::mz_as_bool(value.as_ptr(), value.len()) }
 }
 
-/// How far a tag was read, and the answers that were read ahead. Of these the first `filled` are written, and
-/// no other is looked at.
+/// How far a tag was read, and how many answers were read ahead.
 #[derive(Clone)]
 pub struct Ahead {
-    /// The state, and the one before the answers in `out`, where there are any.
+    /// The state, and the one before the answers that were read ahead, where there are any.
     state: State,
     before: State,
     filled: usize,
-    out: MaybeUninit<[Answer; BATCH]>,
+    /// So many answers are to be read ahead, where there is room for them.
+    batch: usize,
 }
 
 impl Ahead {
@@ -154,22 +162,54 @@ impl Ahead {
             state: [1, pos, 0, 0],
             before: [1, pos, 0, 0],
             filled: 0,
-            out: MaybeUninit::uninit(),
+            batch: BATCH,
         }
     }
 
-    /// Reads on behind the answers that are there, until there are `most` of them, no more follow, or a key
-    /// has no place; the last is the result.
+    /// The answers that were read ahead are taken, and the next batch begins.
+    ///
+    /// Each call of the library hashes all recorded keys. A batch as long as there are keys, or as `long`, what these have in
+    /// bytes by [`HASHED`], makes that one short hash more for each answer, where batches of one length would take time by
+    /// the square of the tag. Nor is it longer than twice the one before, so that little is read in vain where a program
+    /// takes few answers or often turns the checks.
     #[inline]
-    fn read_on(&mut self, keys: Keys, tag: &[u8], html: bool, checks: bool, most: usize) -> bool {
+    fn next_batch(&mut self, long: usize) {
+        let [_, _, recorded, _] = self.state;
+        self.batch = recorded.max(long).min(2 * self.filled).max(BATCH);
+        self.before = self.state;
+        self.filled = 0;
+    }
+
+    /// How many answers are to be read ahead, with room for so many numbers.
+    #[inline]
+    fn wanted(&self, out: &[MaybeUninit<usize>]) -> usize {
+        self.batch.min(out.len() / ANSWER)
+    }
+
+    /// Reads on behind the answers that are there, until there are `most` of them or as many as are read ahead, no
+    /// more follow, or a key has no place; the last is the result.
+    #[inline]
+    fn read_on(
+        &mut self,
+        places: Places,
+        tag: &[u8],
+        html: bool,
+        checks: bool,
+        most: usize,
+    ) -> bool {
         agree();
-        let Keys { starts, ends } = keys;
-        let room = most.min(BATCH) - self.filled;
-        // SAFETY: each pointer but that of the state, which has all its numbers, is that of an array of ours
-        // with the length after it, `out` behind the answers that are there with no more than is left of it;
-        // all are apart from each other and borrowed mutably, and the tag is only read. What is not written
-        // yet isn't read: of the keys the library looks at those before `state[2]`, which only it counts,
-        // and into `out` it writes alone.
+        let Places {
+            starts,
+            ends,
+            hashes,
+            out,
+        } = places;
+        let room = most.min(self.wanted(out)) - self.filled;
+        let out = &mut out[ANSWER * self.filled..][..ANSWER * room];
+        // SAFETY: each pointer but that of the state, which has all its numbers, is that of a slice of ours
+        // with the length after it; all are apart from each other and borrowed mutably, and the tag is only
+        // read. What is not written yet isn't read: of the keys the library looks at those before `state[2]`,
+        // which only it counts, and into `out` it writes alone.
         let count = unsafe {
             library::mz_read_batch(
                 tag.as_ptr(),
@@ -178,15 +218,13 @@ impl Ahead {
                 starts.len(),
                 ends.as_mut_ptr().cast(),
                 ends.len(),
+                hashes.as_mut_ptr().cast(),
+                hashes.len(),
                 self.state.as_mut_ptr(),
                 html,
                 checks,
-                self.out
-                    .as_mut_ptr()
-                    .cast::<Answer>()
-                    .add(self.filled)
-                    .cast(),
-                room * size_of::<Answer>() / NUMBER,
+                out.as_mut_ptr().cast(),
+                out.len(),
             )
         };
         // The number that says "a wrong length" is none that can come, since no table is too long.
@@ -201,56 +239,85 @@ impl Ahead {
         self.filled
     }
 
-    /// One of them.
-    #[inline]
-    pub fn answer(&self, index: usize) -> Answer {
-        assert!(index < self.filled);
-        // SAFETY: `filled` is at most `BATCH`, and the library wrote all five numbers of each answer that it
-        // counted.
-        unsafe { self.out.as_ptr().cast::<Answer>().add(index).read() }
-    }
-
     /// The place of reading, to be shown.
     pub const fn state(&self) -> State {
         self.state
     }
 }
 
-/// A table of bounds of keys. Those that are recorded are written, and no other is looked at.
-type Bounds<const N: usize> = [MaybeUninit<usize>; N];
+/// Numbers that need not be set: bounds of keys, of which those that are recorded are written, and answers, of which
+/// those that are counted are. No other is looked at.
+type Numbers<const N: usize> = [MaybeUninit<usize>; N];
+type Hashes<const N: usize> = [MaybeUninit<u32>; N];
 
-const fn unset<const N: usize>() -> Bounds<N> {
+const fn unset<T: Copy, const N: usize>() -> [MaybeUninit<T>; N] {
     [const { MaybeUninit::uninit() }; N]
 }
 
-/// The places for keys, as they are lent.
-pub struct Keys<'t> {
+/// The places for keys, each by its bounds and its hash, and for answers, as they are lent.
+pub struct Places<'t> {
     starts: &'t mut [MaybeUninit<usize>],
     ends: &'t mut [MaybeUninit<usize>],
+    hashes: &'t mut [MaybeUninit<u32>],
+    out: &'t mut [MaybeUninit<usize>],
+}
+
+impl Places<'_> {
+    /// How many bytes the recorded keys have.
+    fn hashed(&self, recorded: usize) -> usize {
+        let bounds = self.starts[..recorded].iter().zip(&self.ends[..recorded]);
+        // SAFETY: the library wrote the bounds of each key that it counts.
+        bounds
+            .map(|(start, end)| unsafe { end.assume_init() - start.assume_init() })
+            .sum()
+    }
+
+    /// What stands in shorter ones stands here as well.
+    fn copy(&mut self, from: Places) {
+        self.starts[..from.starts.len()].copy_from_slice(from.starts);
+        self.ends[..from.ends.len()].copy_from_slice(from.ends);
+        self.hashes[..from.hashes.len()].copy_from_slice(from.hashes);
+        self.out[..from.out.len()].copy_from_slice(from.out);
+    }
 }
 
 /// What reading a tag needs to go on from one answer to the next.
 pub trait Reads {
     fn ahead(&self) -> &Ahead;
 
-    fn parts(&mut self) -> (&mut Ahead, Keys<'_>);
+    /// The numbers of the answers.
+    fn out(&self) -> &[MaybeUninit<usize>];
 
-    /// More places for keys, with the recorded ones in them.
+    fn parts(&mut self) -> (&mut Ahead, Places<'_>);
+
+    /// Longer places, with the recorded keys and the answers in them.
     fn more_places(&mut self);
 
-    /// Reads at most so many answers. That there are fewer says that no more follow.
+    /// What is to be done before a batch is read, so that it is read by one call; `long` is as in `next_batch`.
+    fn prepare(&mut self, long: usize);
+
+    /// Reads the next answers, and forgets those before; whether no more follow them.
     #[inline]
-    fn read(&mut self, tag: &[u8], html: bool, checks: bool, most: usize) -> usize {
-        let (ahead, keys) = self.parts();
-        ahead.before = ahead.state;
-        ahead.filled = 0;
-        let mut stopped = ahead.read_on(keys, tag, html, checks, most);
-        while stopped {
+    fn read(&mut self, tag: &[u8], html: bool, checks: bool) -> bool {
+        let (ahead, places) = self.parts();
+        let [_, _, recorded, _] = ahead.state;
+        let long = places.hashed(recorded) / HASHED;
+        ahead.next_batch(long);
+        self.prepare(long);
+        self.read_up_to(tag, html, checks, usize::MAX);
+        self.ahead().filled < self.ahead().wanted(self.out())
+    }
+
+    /// Reads on until there are so many answers, in longer places where a key has none.
+    #[inline]
+    fn read_up_to(&mut self, tag: &[u8], html: bool, checks: bool, most: usize) {
+        loop {
+            let (ahead, places) = self.parts();
+            if !ahead.read_on(places, tag, html, checks, most) {
+                return;
+            }
             self.more_places();
-            let (ahead, keys) = self.parts();
-            stopped = ahead.read_on(keys, tag, html, checks, most);
         }
-        self.ahead().filled
     }
 
     /// Goes back to where the first `taken` of the answers read ahead were all that was read.
@@ -258,19 +325,31 @@ pub trait Reads {
         // Keys are recorded behind those that already are, so the ones counted then still stand.
         let (ahead, _) = self.parts();
         ahead.state = ahead.before;
-        self.read(tag, html, checks, taken);
+        ahead.filled = 0;
+        self.read_up_to(tag, html, checks, taken);
+    }
+
+    /// One of the answers that were read ahead.
+    #[inline]
+    fn answer(&self, index: usize) -> Answer {
+        assert!(index < self.ahead().filled);
+        // SAFETY: the answers that are counted have room in `out`, and the library wrote all five numbers of each.
+        unsafe { self.out().as_ptr().cast::<Answer>().add(index).read() }
     }
 }
 
 /// What [`Attributes`](crate::events::attributes::Attributes) has inside: places for the keys of 32
-/// attributes. A tag with more of them gets its places on the heap, once.
+/// attributes. A tag with more of them, or with keys of more than 2 KB, gets its places on the heap, and twice as many
+/// whenever these are full.
 // Not cleared: opening a tag costs the same whatever was read before.
 #[derive(Clone)]
 pub struct Inside {
     pub(crate) ahead: Ahead,
-    starts: Bounds<FEW>,
-    ends: Bounds<FEW>,
-    more: Option<Box<[Bounds<KEYS>; 2]>>,
+    starts: Numbers<FEW>,
+    ends: Numbers<FEW>,
+    hashes: Hashes<FEW>,
+    out: Numbers<{ ANSWER * BATCH }>,
+    more: Option<Heap>,
 }
 
 impl Inside {
@@ -281,6 +360,8 @@ impl Inside {
             ahead: Ahead::opened(pos),
             starts: unset(),
             ends: unset(),
+            hashes: unset(),
+            out: unset(),
             more: None,
         }
     }
@@ -293,42 +374,123 @@ impl Reads for Inside {
     }
 
     #[inline]
-    fn parts(&mut self) -> (&mut Ahead, Keys<'_>) {
-        let keys = match &mut self.more {
-            None => Keys {
+    fn out(&self) -> &[MaybeUninit<usize>] {
+        match &self.more {
+            None => &self.out,
+            Some(heap) => heap.out(),
+        }
+    }
+
+    #[inline]
+    fn parts(&mut self) -> (&mut Ahead, Places<'_>) {
+        let places = match &mut self.more {
+            None => Places {
                 starts: &mut self.starts,
                 ends: &mut self.ends,
+                hashes: &mut self.hashes,
+                out: &mut self.out,
             },
-            Some(more) => {
-                let [starts, ends] = &mut **more;
-                Keys { starts, ends }
-            }
+            Some(heap) => heap.places(),
         };
-        (&mut self.ahead, keys)
+        (&mut self.ahead, places)
     }
 
     #[cold]
     fn more_places(&mut self) {
-        assert!(
-            self.more.is_none(),
-            "the library has no places for {KEYS} keys"
-        );
-        let mut more = Box::new([unset(); 2]);
-        more[0][..FEW].copy_from_slice(&self.starts);
-        more[1][..FEW].copy_from_slice(&self.ends);
-        self.more = Some(more);
+        let (_, places) = self.parts();
+        let keys = places.starts.len();
+        assert!(keys < KEYS, "the library has no places for {KEYS} keys");
+        self.move_to(KEYS.min(2 * keys), 0);
+    }
+
+    /// On the heap there is a place for each key that the batch can record.
+    #[inline]
+    fn prepare(&mut self, long: usize) {
+        let [_, _, recorded, _] = self.ahead.state;
+        while let Some(heap) = &self.more
+            && heap.keys < KEYS.min(recorded + self.ahead.batch)
+        {
+            self.more_places();
+        }
+        let answers = self.ahead.batch.min(long);
+        if answers > BATCH && self.out().len() < ANSWER * answers {
+            let (_, places) = self.parts();
+            let keys = places.starts.len();
+            self.move_to(keys, answers);
+        }
+    }
+}
+
+impl Inside {
+    /// Places on the heap for so many keys, and for so many answers at least, with what there is.
+    #[cold]
+    fn move_to(&mut self, keys: usize, answers: usize) {
+        let (_, places) = self.parts();
+        let answers = answers.max(places.out.len() / ANSWER);
+        let mut heap = Heap::of(keys, answers);
+        heap.places().copy(places);
+        self.more = Some(heap);
+    }
+}
+
+/// Places on the heap, in one piece: starts of keys, their ends, their hashes, and answers, one for two keys or more.
+#[derive(Clone)]
+struct Heap {
+    keys: usize,
+    memory: Box<[MaybeUninit<usize>]>,
+}
+
+impl Heap {
+    /// Hashes in the room of one number.
+    const HASHES: usize = NUMBER / size_of::<u32>();
+
+    /// Places for so many keys, and for so many answers at least.
+    fn of(keys: usize, answers: usize) -> Self {
+        let answers = MOST.min(keys / 2).max(answers);
+        let memory = Self::bounds(keys) + ANSWER * answers;
+        Heap {
+            keys,
+            memory: Box::new_uninit_slice(memory),
+        }
+    }
+
+    /// How many numbers the keys take, with their hashes.
+    const fn bounds(keys: usize) -> usize {
+        2 * keys + keys.div_ceil(Self::HASHES)
+    }
+
+    #[inline]
+    fn out(&self) -> &[MaybeUninit<usize>] {
+        &self.memory[Self::bounds(self.keys)..]
+    }
+
+    fn places(&mut self) -> Places<'_> {
+        let (bounds, out) = self.memory.split_at_mut(Self::bounds(self.keys));
+        let (starts, rest) = bounds.split_at_mut(self.keys);
+        let (ends, hashes) = rest.split_at_mut(self.keys);
+        // SAFETY: the numbers have room for so many hashes, which can stand where numbers can, and neither has to be
+        // set. They are borrowed mutably for as long as the hashes are.
+        let hashes = unsafe { slice::from_raw_parts_mut(hashes.as_mut_ptr().cast(), self.keys) };
+        Places {
+            starts,
+            ends,
+            hashes,
+            out,
+        }
     }
 }
 
 /// Memory of the caller's own in which tags are read, one after another: the places of all keys that can be
 /// recorded, the place of reading, and the answers that were read ahead. Nothing is allocated for any tag.
 ///
-/// [`SIZE`](Self::SIZE) bytes, 4.5 KB, and not cleared: opening a tag costs the same whatever was read before.
+/// [`SIZE`](Self::SIZE) bytes, 30 KB, and not cleared: opening a tag costs the same whatever was read before.
 #[derive(Clone)]
 pub struct Tables {
     pub(crate) ahead: Ahead,
-    starts: Bounds<KEYS>,
-    ends: Bounds<KEYS>,
+    starts: Numbers<KEYS>,
+    ends: Numbers<KEYS>,
+    hashes: Hashes<KEYS>,
+    out: Numbers<{ ANSWER * MOST }>,
 }
 
 impl Tables {
@@ -336,6 +498,8 @@ impl Tables {
     pub const SIZE: usize = size_of::<Self>();
     /// Their address is a multiple of this.
     pub const ALIGNMENT: usize = align_of::<Self>();
+    /// So many keys of a tag can be recorded, in tables or without.
+    pub const KEYS: usize = KEYS;
 
     /// Memory in which no tag was read yet.
     #[inline]
@@ -344,6 +508,8 @@ impl Tables {
             ahead: Ahead::opened(0),
             starts: unset(),
             ends: unset(),
+            hashes: unset(),
+            out: unset(),
         }
     }
 
@@ -369,12 +535,10 @@ impl Tables {
         LentError::of_address(place.addr(), Self::ALIGNMENT)?;
         let tables: *mut Self = place.cast();
         // SAFETY: size and alignment were just tested, and the memory is borrowed mutably for as long as
-        // the answer lives. The three parts that have to be set are set first; the others are of types
+        // the answer lives. The one part that has to be set is set first; the others are of types
         // that need not be, and so are the bytes when they come back.
         unsafe {
-            (&raw mut (*tables).ahead.state).write([1, 0, 0, 0]);
-            (&raw mut (*tables).ahead.before).write([1, 0, 0, 0]);
-            (&raw mut (*tables).ahead.filled).write(0);
+            (&raw mut (*tables).ahead).write(Ahead::opened(0));
             Ok(&mut *tables)
         }
     }
@@ -398,19 +562,36 @@ impl Reads for &mut Tables {
     }
 
     #[inline]
-    fn parts(&mut self) -> (&mut Ahead, Keys<'_>) {
+    fn out(&self) -> &[MaybeUninit<usize>] {
+        &self.out
+    }
+
+    #[inline]
+    fn parts(&mut self) -> (&mut Ahead, Places<'_>) {
         let Tables {
             ahead,
             starts,
             ends,
+            hashes,
+            out,
         } = &mut **self;
-        (ahead, Keys { starts, ends })
+        let places = Places {
+            starts,
+            ends,
+            hashes,
+            out,
+        };
+        (ahead, places)
     }
 
     #[cold]
     fn more_places(&mut self) {
         unreachable!("the library has no places for {KEYS} keys")
     }
+
+    /// All places are there.
+    #[inline]
+    fn prepare(&mut self, _: usize) {}
 }
 
 /// Bytes as numbers. `None` where these can't stand at their address; bytes behind the last whole number are
@@ -586,9 +767,16 @@ impl View<'_> {
     ) -> usize {
         let (tag, tag_len) = (tag.as_ptr(), tag.len());
         loop {
-            let (ahead, Keys { starts, ends }) = reading.parts();
+            let (ahead, places) = reading.parts();
+            let Places {
+                starts,
+                ends,
+                hashes,
+                out: _,
+            } = places;
             ahead.filled = 0;
-            // as in `Ahead::read_on`, of the keys the library looks at those that it has counted
+            // as in `Ahead::read_on`, no answer turns on places behind the keys that the library has counted; where the
+            // tables are short it copies such places, set or not, into its own
             let (keys_from, keys_to) = (starts.as_mut_ptr().cast(), ends.as_mut_ptr().cast());
             let answer = call!(
                 mz_has_nil,
@@ -599,6 +787,8 @@ impl View<'_> {
                 starts.len(),
                 keys_to,
                 ends.len(),
+                hashes.as_mut_ptr().cast(),
+                hashes.len(),
                 ahead.state.as_mut_ptr(),
                 html,
                 checks
@@ -651,7 +841,8 @@ mod tests {
             assert_eq!(differences(other), said);
         }
         // a library that knows of none of them
-        assert_eq!(differences(|_| 0).matches(": 0 in the library").count(), 11);
+        let none = differences(|_| 0);
+        assert_eq!(none.matches(": 0 in the library").count(), LAYOUT.len());
     }
 
     #[test]

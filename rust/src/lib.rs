@@ -35,8 +35,8 @@
 //!
 //! | Type | Bytes, at most | The way around |
 //! |---|---|---|
-//! | [`Attributes`](events::attributes::Attributes), [`ByteAttributes`](events::attributes::ByteAttributes) | 1,000 | `with_tables`: 40, beside tables that are made once |
-//! | [`Tables`](events::attributes::Tables) | 4,488 | a box or a static, or [`Tables::from_bytes`](events::attributes::Tables::from_bytes) |
+//! | [`Attributes`](events::attributes::Attributes), [`ByteAttributes`](events::attributes::ByteAttributes) | 1,100: places for 32 keys with their hashes, and for 8 answers | `with_tables`: 40, beside tables that are made once |
+//! | [`Tables`](events::attributes::Tables) | 30,800: places for all keys, and for 256 answers | a box or a static, or [`Tables::from_bytes`](events::attributes::Tables::from_bytes) |
 //! | [`Memory`](name::Memory) of full size | 98,400 | [`Memory::boxed`](name::Memory::boxed), a static, or [smaller numbers](name::Memory) |
 //! | [`ResolvedNames`](name::ResolvedNames) | 512 | one name at a time |
 //! | [`NamespaceResolver`](name::NamespaceResolver) | 80; 40 where its memory is lent | |
@@ -71,9 +71,9 @@ pub use lent::LentError;
 const _: () = {
     use events::attributes::{Attributes, ByteAttributes, Tables};
     use name::{Lent, Memory, NamespaceResolver, ResolvedNames};
-    assert!(size_of::<Attributes>() <= 1_000 && size_of::<ByteAttributes>() <= 1_000);
+    assert!(size_of::<Attributes>() <= 1_100 && size_of::<ByteAttributes>() <= 1_100);
     assert!(size_of::<Attributes<&mut Tables>>() <= 40);
-    assert!(size_of::<Tables>() <= 4_488 && size_of::<Memory>() <= 98_400);
+    assert!(size_of::<Tables>() <= 30_800 && size_of::<Memory>() <= 98_400);
     assert!(size_of::<ResolvedNames>() <= 512);
     assert!(size_of::<NamespaceResolver>() <= 80 && size_of::<NamespaceResolver<Lent>>() <= 40);
 };

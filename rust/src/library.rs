@@ -7,6 +7,9 @@
 // whoever takes the file calls some of them
 #![allow(dead_code)]
 
+/// How many keys of a tag can be recorded: elements of each key table, at most.
+pub const KEYS: usize = 1_024;
+
 unsafe extern "C" {
     pub safe fn mz_layout(what: usize) -> usize;
 
@@ -30,6 +33,8 @@ unsafe extern "C" {
         starts_len: usize,
         ends: *mut usize,
         ends_len: usize,
+        hashes: *mut u32,
+        hashes_len: usize,
         state: *mut usize,
         html: bool,
         checks: bool,
@@ -70,5 +75,6 @@ on_a_resolver! { const:
     mz_binding(place: usize, detail: *mut usize);
     mz_binding_of(level: u16, place: usize, detail: *mut usize);
     mz_has_nil(tag: *const u8, tag_len: usize, key_starts: *mut usize, key_starts_len: usize,
-        key_ends: *mut usize, key_ends_len: usize, state: *mut usize, html: bool, checks: bool);
+        key_ends: *mut usize, key_ends_len: usize, key_hashes: *mut u32, key_hashes_len: usize,
+        state: *mut usize, html: bool, checks: bool);
 }

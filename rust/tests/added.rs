@@ -9,6 +9,8 @@ use mezzulidda::name::{
 use std::borrow::Cow;
 use std::thread;
 
+const KEYS: usize = Tables::KEYS;
+
 fn keys(count: usize) -> String {
     (0..count).map(|n| format!(" k{n}=''")).collect()
 }
@@ -22,35 +24,270 @@ fn refusals<'a>(
 }
 
 #[test]
-fn the_257th_key_ends_reading() {
-    assert_eq!(refusals(Attributes::new(&keys(256), 0)), (256, vec![]));
-    let content = format!("{} k0='' new='' k1=''", keys(256));
-    let at = keys(256).len() + 1;
+fn a_key_too_many_ends_reading() {
+    assert_eq!(refusals(Attributes::new(&keys(KEYS), 0)), (KEYS, vec![]));
+    let content = format!("{} k0='' new='' k1=''", keys(KEYS));
+    let at = keys(KEYS).len() + 1;
     let wanted = vec![
         AttrError::Duplicated(at, 1),
         AttrError::KeyTableFull(at + 6),
     ];
-    assert_eq!(refusals(Attributes::new(&content, 0)), (256, wanted));
+    assert_eq!(refusals(Attributes::new(&content, 0)), (KEYS, wanted));
     // a bare key too, and nothing is read after it
-    let content = format!("{} k0 bare last", keys(256));
+    let content = format!("{} k0 bare last", keys(KEYS));
     let wanted = vec![
         AttrError::Duplicated(at, 1),
         AttrError::KeyTableFull(at + 3),
     ];
-    assert_eq!(refusals(Attributes::html(&content, 0)), (256, wanted));
-    let content = format!("{} k0='' new='' k1=''", keys(256));
+    assert_eq!(refusals(Attributes::html(&content, 0)), (KEYS, wanted));
+    let content = format!("{} k0='' new='' k1=''", keys(KEYS));
     let mut unchecked = Attributes::new(&content, 0);
-    assert_eq!(refusals(unchecked.with_checks(false)), (259, vec![]));
+    assert_eq!(refusals(unchecked.with_checks(false)), (KEYS + 3, vec![]));
     assert_eq!(
         AttrError::KeyTableFull(7).to_string(),
-        "position 7: more than 256 different attribute keys"
+        format!("position 7: more than {KEYS} different attribute keys")
     );
+}
+
+/// ` k0='1' k1='1' ..`, so many of them.
+fn numbered(count: usize) -> String {
+    (0..count).map(|n| format!(" k{n}='1'")).collect()
+}
+
+#[test]
+fn tags_of_700_and_1024_attributes() {
+    let mut tables = Tables::new();
+    for count in [700, 1_024] {
+        let content = numbered(count);
+        let wanted: Vec<_> = (0..count).map(|n| format!("k{n}")).collect();
+        let own = Attributes::new(&content, 0);
+        let lent = Attributes::with_tables(&content, 0, &mut tables);
+        for read in [own.collect::<Vec<_>>(), lent.collect()] {
+            let read: Vec<_> = read.into_iter().map(Result::unwrap).collect();
+            assert!(read.iter().all(|attribute| attribute.value == "1"));
+            let keys: Vec<_> = read.iter().map(|a| a.key.into_inner()).collect();
+            assert_eq!(keys, wanted);
+        }
+    }
+    // one more: a new name, and one that came before
+    for (last, wanted) in [
+        (" k1024='1'", AttrError::KeyTableFull(9_131)),
+        (" k7='1'", AttrError::Duplicated(9_131, 50)),
+    ] {
+        let content = numbered(1_024) + last;
+        let own = refusals(Attributes::new(&content, 0));
+        let lent = refusals(Attributes::with_tables(&content, 0, &mut tables));
+        assert_eq!(own, (1_024, vec![wanted]));
+        assert_eq!(own, lent);
+    }
+}
+
+/// FNV-1a with 32 bits: what the library tells most different names apart by.
+fn hash(name: &str) -> u32 {
+    name.bytes().fold(2_166_136_261, |hash, byte| {
+        (hash ^ u32::from(byte)).wrapping_mul(16_777_619)
+    })
+}
+
+#[test]
+fn names_of_one_hash_are_different_keys() {
+    for [one, other] in [
+        ["yaczf", "glbpp"],
+        ["yzfzf", "geepp"],
+        ["yomzf", "gvlpp"],
+        ["gtbxf", "yicrp"],
+    ] {
+        assert_eq!(hash(one), hash(other));
+        let content = format!("{one}='' {other}='' {one}='' {other}=''");
+        let wanted = vec![AttrError::Duplicated(18, 0), AttrError::Duplicated(27, 9)];
+        assert_eq!(refusals(Attributes::new(&content, 0)), (2, wanted));
+        // behind so many others that they are on the heap
+        let content = format!("{}{content}", numbered(500) + " ");
+        let at = content.len() - 35;
+        let wanted = vec![
+            AttrError::Duplicated(at + 18, at),
+            AttrError::Duplicated(at + 27, at + 9),
+        ];
+        assert_eq!(refusals(Attributes::new(&content, 0)), (502, wanted));
+    }
+}
+
+/// How many answers are read ahead, and how many keys are recorded, as an iterator shows it.
+fn shown_of(attributes: &impl std::fmt::Debug) -> [usize; 2] {
+    let shown = format!("{attributes:?}");
+    ["ahead: ", "recorded: "].map(|what| {
+        let (_, number) = shown.rsplit_once(what).unwrap();
+        let end = number.find(|c: char| !c.is_ascii_digit()).unwrap();
+        number[..end].parse().unwrap()
+    })
+}
+
+/// The lengths of the batches in which a tag is read.
+fn batches<'a>(
+    mut attributes: impl Iterator<Item = Result<Attribute<'a>, AttrError>> + std::fmt::Debug,
+) -> Vec<usize> {
+    let mut lengths = Vec::new();
+    while attributes.next().is_some() {
+        let [ahead, _] = shown_of(&attributes);
+        lengths.push(ahead);
+        (1..ahead).for_each(|_| drop(attributes.next()));
+    }
+    lengths
+}
+
+/// Each call hashes all bytes of the recorded keys: where these are long, as here one, batches grow with them.
+#[test]
+fn batches_grow_with_long_keys() {
+    let content = "k".repeat(100_000) + "='' " + &"a ".repeat(2_000);
+    let lengths = batches(Attributes::new(&content, 0));
+    assert_eq!(lengths, [8, 16, 32, 64, 128, 256, 390, 390, 390, 327]);
+    let mut tables = Tables::new();
+    let lengths = batches(Attributes::with_tables(&content, 0, &mut tables));
+    assert_eq!(lengths[..6], [8, 16, 32, 64, 128, 256]);
+    assert_eq!(lengths[6..], [256, 256, 256, 256, 256, 217]);
+    // where they come to no more than 2 KB nothing is on the heap, and batches are short
+    let content = "k".repeat(2_303) + "='' " + &"a ".repeat(40);
+    assert_eq!(batches(Attributes::new(&content, 0)), [8, 8, 8, 8, 8, 1]);
+    let content = "k".repeat(2_304) + "='' " + &"a ".repeat(40);
+    assert_eq!(batches(Attributes::new(&content, 0)), [8, 9, 9, 9, 6]);
+}
+
+#[test]
+fn batches_grow_with_the_recorded_keys() {
+    let mut tables = Tables::new();
+    let content = numbered(1_024);
+    // with memory of its own eight at a time, as long as that is inside
+    assert_eq!(
+        batches(Attributes::new(&content, 0)),
+        [8, 8, 8, 8, 16, 32, 64, 128, 256, 256, 240]
+    );
+    assert_eq!(
+        batches(Attributes::with_tables(&content, 0, &mut tables)),
+        [8, 8, 16, 32, 64, 128, 256, 256, 256]
+    );
+    // behind a turn of the checks they are short, and grow again
+    let mut turned = Attributes::with_tables(&content, 0, &mut tables);
+    turned.by_ref().take(517).for_each(drop);
+    turned.with_checks(false).with_checks(true);
+    assert_eq!(batches(turned), [10, 20, 40, 80, 160, 197]);
+    // where none is recorded, few
+    let mut unchecked = Attributes::new(&content, 0);
+    unchecked.with_checks(false);
+    assert_eq!(batches(unchecked), [8; 128]);
+    // and where few are, of which the others come again
+    let content: String = (0..100).map(|n| format!(" k{}=''", n % 20)).collect();
+    let mut lengths = batches(Attributes::with_tables(&content, 0, &mut tables));
+    assert_eq!(lengths.pop(), Some(8));
+    assert_eq!(lengths, [8, 8, 16, 20, 20, 20]);
+}
+
+/// The answers of a tag of attributes ` k{N}=''`, by the numbers N and the checks at each step; and how many keys
+/// are recorded.
+fn modelled(numbers: &[usize], checks: impl Fn(usize) -> bool) -> (Vec<String>, usize) {
+    let mut recorded = std::collections::HashMap::new();
+    let mut at = 1;
+    let mut answers = Vec::new();
+    for (step, number) in numbers.iter().enumerate() {
+        let key = format!("k{number}");
+        let next = at + key.len() + 4;
+        let earlier = recorded.get(number).copied().filter(|_| checks(step));
+        if checks(step) && earlier.is_none() && recorded.len() == KEYS {
+            answers.push(format!("{:?}", AttrError::KeyTableFull(at)));
+            break;
+        }
+        answers.push(match earlier {
+            Some(earlier) => format!("{:?}", AttrError::Duplicated(at, earlier)),
+            None => key,
+        });
+        if checks(step) && earlier.is_none() {
+            recorded.insert(number, at);
+        }
+        at = next;
+    }
+    (answers, recorded.len())
+}
+
+/// The answers of an iterator, with checks as they are wanted at each step; and how many keys it says are recorded.
+macro_rules! answers {
+    ($attributes:expr, $checks:expr) => {{
+        let mut attributes = $attributes;
+        let mut answers = Vec::new();
+        loop {
+            attributes.with_checks($checks(answers.len()));
+            match attributes.next() {
+                Some(Ok(attribute)) => answers.push(attribute.key.into_inner().to_string()),
+                Some(Err(refusal)) => answers.push(format!("{refusal:?}")),
+                None => break,
+            }
+        }
+        let [_, recorded] = shown_of(&attributes);
+        (answers, recorded)
+    }};
+}
+
+#[test]
+fn batches_of_every_length_are_read_as_one() {
+    // each seventh key came before, so that no batch ends where places do
+    let numbers: Vec<_> = (0..1_150)
+        .map(|n| if n % 7 == 6 { n / 2 } else { n })
+        .collect();
+    let mut tables = Tables::new();
+    let near = |power: u32| (0..5).map(move |n| (1_usize << power) + n - 2);
+    let mut lengths: Vec<_> = (0..80).chain((3..11).flat_map(near)).collect();
+    lengths.extend([700, 900, 1_149]);
+    for length in lengths {
+        let numbers = &numbers[..length];
+        let content: String = numbers.iter().map(|n| format!(" k{n}=''")).collect();
+        // checks on, and off for one step, for a few or for many around the middle
+        for off in [0, 1, 9, 70, 300] {
+            let middle = length / 2;
+            let checks = |step: usize| !(middle..middle + off).contains(&step);
+            let wanted = modelled(numbers, checks);
+            let own = answers!(Attributes::new(&content, 0), checks);
+            // what differs is too long to be shown
+            assert!(own == wanted, "{length} with {off}");
+            let lent = Attributes::with_tables(&content, 0, &mut tables);
+            let lent = answers!(lent, checks);
+            assert!(lent == wanted, "{length} with {off}, lent");
+            // a copy that is taken in the middle goes on by itself
+            let mut attributes = Attributes::new(&content, 0);
+            attributes.by_ref().take(middle).for_each(drop);
+            let copy = attributes.clone();
+            let (read, _) = modelled(numbers, |_| true);
+            let [rest, again] = [attributes.count(), copy.count()];
+            assert_eq!([rest, again], [read.len() - middle; 2]);
+        }
+    }
+}
+
+#[test]
+fn nil_behind_many_attributes() {
+    let mut resolver = NamespaceResolver::default();
+    let instance = "http://www.w3.org/2001/XMLSchema-instance";
+    let scope = format!("t xmlns:i='{instance}'");
+    resolver.push(&BytesStart::from_content(scope, 1)).unwrap();
+    let mut tables = Tables::new();
+    for count in [5, 40, 300, 1_000] {
+        let content = format!("{} i:nil='1' last=''", numbered(count));
+        // from the start, from behind answers that were read ahead, and from behind the `nil` itself
+        for taken in [0, 3, count / 2, count, count + 1] {
+            let mut own = Attributes::new(&content, 0);
+            let mut lent = Attributes::with_tables(&content, 0, &mut tables);
+            own.by_ref().take(taken).for_each(drop);
+            lent.by_ref().take(taken).for_each(drop);
+            let wanted = (taken <= count, usize::from(taken <= count));
+            let found = (own.has_nil(&resolver), own.count());
+            assert_eq!(found, wanted, "{count} behind {taken}");
+            let found = (lent.has_nil(&resolver), lent.count());
+            assert_eq!(found, wanted, "{count} behind {taken}, lent");
+        }
+    }
 }
 
 #[test]
 fn lent_tables_remember_nothing() {
     let mut tables = Tables::new();
-    let long = keys(256);
+    let long = keys(KEYS);
     for content in [&*long, "a='1' a='2'", " k0='' k1=''", "", "a=1", "b='"] {
         let own: Vec<_> = Attributes::new(content, 0).collect();
         let lent: Vec<_> = Attributes::with_tables(content, 0, &mut tables).collect();
@@ -292,7 +529,20 @@ fn memory_grows_with_what_it_holds() {
 #[test]
 fn more_attributes_than_there_is_room_for_inside() {
     let mut tables = Tables::new();
-    for count in [31, 32, 33, 34, 64, 255, 256, 257, 300] {
+    for count in [
+        31,
+        32,
+        33,
+        34,
+        64,
+        65,
+        256,
+        700,
+        KEYS - 1,
+        KEYS,
+        KEYS + 1,
+        KEYS + 300,
+    ] {
         let content = format!("{} k0='' k{count}=''{}", keys(count), keys(3));
         for html in [false, true] {
             let (own, lent): (Vec<_>, Vec<_>) = match html {
@@ -306,11 +556,11 @@ fn more_attributes_than_there_is_room_for_inside() {
                 ),
             };
             assert_eq!(own, lent);
-            // up to four keys are there twice; the 257th different one is refused, and ends it
+            // up to four keys are there twice; a different one too many is refused, and ends it
             let answers = match count {
-                0..256 => count + 5,
-                256 => 258,
-                _ => 257,
+                0..KEYS => count + 5,
+                KEYS => KEYS + 2,
+                _ => KEYS + 1,
             };
             assert_eq!(own.len(), answers, "{count} keys");
         }
@@ -357,17 +607,16 @@ fn in_2_mb(read: impl FnOnce() -> usize + Send + 'static) -> usize {
 
 #[test]
 fn an_iterator_for_each_of_1500_levels() {
-    let read = in_2_mb(|| read_within(1_500, " a='1' b='22'"));
-    assert_eq!(read, 3 * 1_500);
-    // without optimisation a level takes more, and on other processors more than on x86-64
-    let levels = match (cfg!(debug_assertions), cfg!(target_arch = "x86_64")) {
-        (false, _) => 1_500,
-        (true, true) => 600,
-        (true, false) => 500,
+    // without optimisation a level takes more, and still more where the loop has the iterator
+    let (within, by_value) = match cfg!(debug_assertions) {
+        false => (1_500, 1_500),
+        true => (1_200, 500),
     };
+    let read = in_2_mb(move || read_within(within, " a='1' b='22'"));
+    assert_eq!(read, 3 * within);
     let tag = BytesStart::from_content("t a='1' b='22'", 1);
-    let read = in_2_mb(move || read_by_value(levels, &tag));
-    assert_eq!(read, 3 * levels);
+    let read = in_2_mb(move || read_by_value(by_value, &tag));
+    assert_eq!(read, 3 * by_value);
 }
 
 #[test]

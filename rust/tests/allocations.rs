@@ -78,7 +78,20 @@ fn attributes() {
 #[test]
 fn many_attributes() {
     let mut tables = Tables::new();
-    for (attributes, wanted) in [(31, 0), (32, 0), (33, 1), (256, 1)] {
+    // places for 64 keys, and twice as many each time that there are too few for the next batch
+    let wanted = [
+        (31, 0),
+        (32, 0),
+        (33, 1),
+        (46, 1),
+        (49, 2),
+        (78, 2),
+        (81, 3),
+        (256, 4),
+        (700, 5),
+        (Tables::KEYS, 5),
+    ];
+    for (attributes, wanted) in wanted {
         let tag: String = (0..attributes).map(|n| format!(" k{n}=''")).collect();
         let mut read = 0;
         let own = allocations(|| read += Attributes::new(&tag, 0).count());

@@ -35,31 +35,31 @@ pub record Showing (s numbers text : List ℕ) (written shown : ℕ) (st : IterS
   pub short : length s ≤ 65536
 
 -- none are shown yet
-pub showing-none : (s starts ends numbers text : List ℕ) (written : ℕ) → ToShow s starts ends numbers text written → Showing s numbers text written 0 (lentState (Next 0) false true starts ends 0)
+pub showing-none : (s starts ends hashes numbers text : List ℕ) (written : ℕ) → ToShow s starts ends hashes numbers text written → Showing s numbers text written 0 (lentState (Next 0) false true starts ends hashes 0)
 unfolding opened noKeys
-showing-none s starts ends numbers text written to =
+showing-none s starts ends hashes numbers text written to =
     record {
-      stand = rw (to .fresh .0, to .fresh .1) (stand-first s fresh (opened-sized 0 false true));
+      stand = rw (to .fresh .0, to .fresh .1, to .fresh .2) (stand-first s fresh (opened-sized 0 false true));
       done = shown-none s written (to .counted .count);
       room = to .lent .room;
       lines = to .room;
       short = to .counted .short;
     }
 
-module _ (s : List ℕ) (place : Place) (starts ends : List ℕ) (recorded : ℕ) (numbers text : List ℕ) (written shown : ℕ)
-    (h : Showing s numbers text written shown (lentState place false true starts ends recorded)) where
+module _ (s : List ℕ) (place : Place) (starts ends hashes : List ℕ) (recorded : ℕ) (numbers text : List ℕ) (written shown : ℕ)
+    (h : Showing s numbers text written shown (lentState place false true starts ends hashes recorded)) where
   abbrev stood : IterState
-  stood = lentState place false true starts ends recorded
+  stood = lentState place false true starts ends hashes recorded
 
   abbrev page : List ℕ
   page = linesOf (runOf 256 s stood)
 
   page-is : linesBy (batchOf s stood numbers) text ≡ page
   page-is =
-      page-lines s place false true starts ends recorded numbers text (h .stand .sized) (omega (arith, h .room, h .lines))
+      page-lines s place false true starts ends hashes recorded numbers text (h .stand .sized) (omega (arith, h .room, h .lines))
       ∙ ap (λ (m : ℕ). linesOf (runOf m s stood)) (h .room)
 
-  module _ {p : Paged} {starts' ends' numbers' made : List ℕ} (e : pageLeft p starts' ends' numbers' made ≡ pageOf s stood numbers text) where
+  module _ {p : Paged} {starts' ends' hashes' numbers' made : List ℕ} (e : pageLeft p starts' ends' hashes' numbers' made ≡ pageOf s stood numbers text) where
     abbrev size : ℕ
     size = p .length
 
@@ -85,16 +85,16 @@ module _ (s : List ℕ) (place : Place) (starts ends : List ℕ) (recorded : ℕ
       wrote-is : wrote ≡ written + length page
       wrote-is = ew ∙ ap (λ (l : List ℕ). written + length l) front
 
-      eb : batched (p .left) starts' ends' numbers' ≡ batchOf s stood numbers
+      eb : batched (p .left) starts' ends' hashes' numbers' ≡ batchOf s stood numbers
       eb = page-batch s stood numbers text e
 
       pub turn-never : p .left ≡ WrongTables → ⊥
-      turn-never = never-wrong s place false true starts ends recorded numbers (h .stand .sized) eb
+      turn-never = never-wrong s place false true starts ends hashes recorded numbers (h .stand .sized) eb
 
       module _ {n : ℕ} {next : Place} {keys : ℕ} {why : Why} (r : p .left ≡ Read n next keys why) where
         count-is : n ≡ length (runOf 256 s stood)
         count-is =
-            read-count s place false true starts ends recorded numbers (h .stand .sized) eb r
+            read-count s place false true starts ends hashes recorded numbers (h .stand .sized) eb r
             ∙ ap (λ (m : ℕ). length (runOf m s stood)) (h .room)
 
         pub turn-last : n < 256 → wrote ≡ length (outputOf s)
@@ -113,9 +113,9 @@ module _ (s : List ℕ) (place : Place) (starts ends : List ℕ) (recorded : ℕ
           pub turn-less : length s + 1 - (shown + n) < length s + 1 - shown
           turn-less = omega (arith, full, stand-bound s fresh (shown + 256) _ stand-on 0)
 
-          pub turn-more : length numbers' ≡ length numbers → Showing s numbers' made wrote (shown + n) (lentState next false true starts' ends' keys)
+          pub turn-more : length numbers' ≡ length numbers → Showing s numbers' made wrote (shown + n) (lentState next false true starts' ends' hashes' keys)
           turn-more size' =
-              let left = read-left s place false true starts ends recorded numbers (h .stand .sized) eb r ∙ ap (λ (m : ℕ). leftOf m s stood) (h .room) in
+              let left = read-left s place false true starts ends hashes recorded numbers (h .stand .sized) eb r ∙ ap (λ (m : ℕ). leftOf m s stood) (h .room) in
               record {
                 stand = rw (left, full) stand-on;
                 done = rw (full, wrote-is) (shown-more s shown stood (h .stand) written (h .done) 256);

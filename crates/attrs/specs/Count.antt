@@ -13,14 +13,15 @@ use Rattle.tag_step.specs.Run.{answersOf}
 use Rattle.tag_batch.specs.Batch.{answersRoom}
 
 -- the tables of an iterator, and an output with room for 256 answers
-pub record AttrsMemory (s e numbers : List ℕ) : Type 0 where
+pub record AttrsMemory (s e h numbers : List ℕ) : Type 0 where
   pub starts : length s ≡ capacity
   pub ends : length e ≡ capacity
+  pub hashes : length h ≡ capacity
   pub room : answersRoom numbers ≡ 256
 
 -- an iterator in XML mode with checks on, opened at 0 on those tables
-unfoldable pub attrsOpened : List ℕ → List ℕ → IterState
-attrsOpened starts ends = lentState (Next 0) false true starts ends 0
+unfoldable pub attrsOpened : (starts ends hashes : List ℕ) → IterState
+attrsOpened starts ends hashes = lentState (Next 0) false true starts ends hashes 0
 
 -- the answers to one tag, XML mode, checks on, from 0
 unfoldable pub attrsAnswers : List ℕ → List Answer

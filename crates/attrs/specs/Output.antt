@@ -34,8 +34,8 @@ pub record Counted (s : List ℕ) (written : ℕ) : Type 0 where
   pub count : written ≡ length (countLine (length (attrsAnswers s)))
 
 -- the same with the tables of a fresh iterator, and room for a page of 256 answers, 107 bytes each
-pub record ToShow (s starts ends numbers text : List ℕ) (written : ℕ) : Type 0 where
-  pub lent : AttrsMemory starts ends numbers
-  pub fresh : (starts ≡ replicate capacity 0) × (ends ≡ replicate capacity 0)
+pub record ToShow (s starts ends hashes numbers text : List ℕ) (written : ℕ) : Type 0 where
+  pub lent : AttrsMemory starts ends hashes numbers
+  pub fresh : (starts ≡ replicate capacity 0) × (ends ≡ replicate capacity 0) × (hashes ≡ replicate capacity 0)
   pub room : 107 * 256 ≤ length text
   pub counted : Counted s written

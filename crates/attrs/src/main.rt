@@ -6,10 +6,10 @@
 //
 // At most 65,536 bytes are read; all of them are the tag, a line end too. The count comes first, so the tag is read twice,
 // 256 answers at a time: once to count them, once to show them.
-use lines::Mode;
 use tag_batch::Batch;
 use tag_keys::CAPACITY;
 use tag_step::Place;
+use tag_step::Standing;
 ghost use mathlib.Core.Path.{_≡_};
 ghost use Prim.Native.Nat.{_+_, _≤_};
 ghost use lib.ListN.{length};
@@ -29,16 +29,23 @@ fn count_on<'a>(
     tag: &[u8],
     starts: &'a mut [usize],
     ends: &'a mut [usize],
+    hashes: &'a mut [u32],
     numbers: &mut [usize],
 ) -> usize
-    requires { ⌜ AttrsMemory (now starts) (now ends) (now numbers) ⌝ }
-    ensures { λ r. ⌜ r ≡ length (answersOf (now (tag .entry)) (attrsOpened (now (starts .entry)) (now (ends .entry)))) ⌝ }
+    requires { ⌜ AttrsMemory (now starts) (now ends) (now hashes) (now numbers) ⌝ }
+    ensures { λ r. ⌜ r ≡ length (answersOf (now (tag .entry)) (attrsOpened (now (starts .entry)) (now (ends .entry)) (now (hashes .entry)))) ⌝ }
 {
     let mut place = Place::Next(0);
     let mut recorded = 0;
     let mut total = 0;
     loop {
-        let left = tag_batch::read_batch(tag, starts, ends, false, true, recorded, place, numbers);
+        let at = Standing {
+            place: place,
+            html: false,
+            checks: true,
+            count: recorded,
+        };
+        let left = tag_batch::read_batch(tag, starts, ends, hashes, at, numbers);
         let Batch::Read(n, next, count, _) = left else {
             return total;
         };
@@ -56,8 +63,9 @@ fn count(tag: &[u8]) -> usize
 {
     let mut starts = [0usize; CAPACITY];
     let mut ends = [0usize; CAPACITY];
+    let mut hashes = [0u32; CAPACITY];
     let mut numbers = [0usize; NUMBERS];
-    count_on(tag, &mut starts, &mut ends, &mut numbers)
+    count_on(tag, &mut starts, &mut ends, &mut hashes, &mut numbers)
 }
 
 // Writes the next part of the output, of which `written` bytes are written already. All that a tag gives goes this way.
@@ -86,30 +94,25 @@ fn show_on<'a>(
     tag: &[u8],
     starts: &'a mut [usize],
     ends: &'a mut [usize],
+    hashes: &'a mut [u32],
     numbers: &mut [usize],
     text: &mut [u8],
     written: &mut usize,
 )
-    requires { ⌜ ToShow (now tag) (now starts) (now ends) (now numbers) (now text) (now written) ⌝ }
+    requires { ⌜ ToShow (now tag) (now starts) (now ends) (now hashes) (now numbers) (now text) (now written) ⌝ }
     ensures { λ _. ⌜ now (written .exit) ≡ length (outputOf (now (tag .entry))) ⌝ }
 {
     let mut place = Place::Next(0);
     let mut recorded = 0;
     let mut shown = 0;
     loop {
-        let page = lines::page(
-            tag,
-            starts,
-            ends,
-            Mode {
-                html: false,
-                checks: true,
-            },
-            recorded,
-            place,
-            numbers,
-            text,
-        );
+        let at = Standing {
+            place: place,
+            html: false,
+            checks: true,
+            count: recorded,
+        };
+        let page = lines::page(tag, starts, ends, hashes, at, numbers, text);
         let length = page.length;
         write_next(tag, &text[..length], written);
         let left = page.left;
@@ -131,12 +134,14 @@ fn show(tag: &[u8], written: &mut usize)
 {
     let mut starts = [0usize; CAPACITY];
     let mut ends = [0usize; CAPACITY];
+    let mut hashes = [0u32; CAPACITY];
     let mut numbers = [0usize; NUMBERS];
     let mut text = [0u8; TEXT];
     show_on(
         tag,
         &mut starts,
         &mut ends,
+        &mut hashes,
         &mut numbers,
         &mut text,
         written,

@@ -1,4 +1,4 @@
--- An iterator that stands in lent memory: two tables of recorded keys, and four numbers, of which the last is only written.
+-- An iterator that stands in lent memory: three tables of recorded keys, and four numbers, of which the last is only written.
 use Prim.Native.Nat.{ℕ}
 use mathlib.Core.Bool.{Bool, _&&_}
 use mathlib.Core.List.{List, [], _∷_}
@@ -45,6 +45,6 @@ settledOf state before after recorded =
     (set (set (set state 2 recorded) 0 (kindOf after)) 1 (positionOf after))
 
 -- the iterator that stands in lent memory
-unfoldable pub heldIn : (tag starts ends state : List ℕ) (html checks : Bool) → IterState
-heldIn tag starts ends state html checks =
-    lentState (placeFrom (length tag) (getD state 0 0) (getD state 1 0)) html checks starts ends (getD state 2 0)
+unfoldable pub heldIn : (tag starts ends hashes state : List ℕ) (html checks : Bool) → IterState
+heldIn tag starts ends hashes state html checks =
+    lentState (placeFrom (length tag) (getD state 0 0) (getD state 1 0)) html checks starts ends hashes (getD state 2 0)

@@ -1,4 +1,4 @@
-// An iterator in a caller's memory: beside the two tables of recorded keys it is four numbers, the kind of its place (0
+// An iterator in a caller's memory: beside the three tables of recorded keys it is four numbers, the kind of its place (0
 // done, 1 next, 2 skip value, 3 skip from `=`), the position, how many keys are recorded, and why a batch stopped, which is
 // only written. What the exports that take such an iterator share.
 use tag_step::Place;

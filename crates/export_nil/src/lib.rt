@@ -1,7 +1,7 @@
 // What the static library exports of what stands on both the iterator and the resolver: `has_nil`; and what one value says.
 // Each function hands what it is lent on to the crate that has the rule, and answers by a number; none asks anything of
 // its caller.
-use scope_nil::Standing;
+use tag_step::Standing;
 ghost use mathlib.Core.Path.{_≡_};
 ghost use Rattle.tag_parts.specs.Parts.{truthOf, truthNumber};
 ghost use Rattle.export_nil.specs.Search.{nilEnd, hasNilBy};
@@ -25,14 +25,15 @@ pub extern "C" fn mz_has_nil<'k, 't>(
     tag: &[u8],
     key_starts: &'k mut [usize],
     key_ends: &'k mut [usize],
+    key_hashes: &'k mut [u32],
     state: &mut [usize; 4],
     html: bool,
     checks: bool,
 ) -> usize
     ensures { λ r.
-        ⌜ nilEnd r (now («key_starts» .exit)) (now («key_ends» .exit)) (now (state .exit))
+        ⌜ nilEnd r (now («key_starts» .exit)) (now («key_ends» .exit)) (now («key_hashes» .exit)) (now (state .exit))
         ≡ hasNilBy (now (text .entry)) (now (records .entry)) (now (head .entry)) (now (tag .entry))
-        (now («key_starts» .entry)) (now («key_ends» .entry)) (now (state .entry)) html checks ⌝ }
+        (now («key_starts» .entry)) (now («key_ends» .entry)) (now («key_hashes» .entry)) (now (state .entry)) html checks ⌝ }
 {
     let h = export_memory::head_from(head);
     let place = export_cursor::place_from(tag.len(), state[0], state[1]);
@@ -42,7 +43,7 @@ pub extern "C" fn mz_has_nil<'k, 't>(
         checks: checks,
         count: state[2],
     };
-    let out = scope_nil::has_nil_in(tag, key_starts, key_ends, at, text, records, h);
+    let out = scope_nil::has_nil_in(tag, key_starts, key_ends, key_hashes, at, text, records, h);
     let left = out.place;
     export_cursor::settle(state, place, left, out.count);
     let answer = out.answer;

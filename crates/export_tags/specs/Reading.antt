@@ -1,4 +1,4 @@
--- A batch across the boundary: an iterator in two lent tables and four lent numbers, and what a call leaves in them.
+-- A batch across the boundary: an iterator in three lent tables and four lent numbers, and what a call leaves in them.
 use Prim.Native.Nat.{ℕ}
 use mathlib.Core.Bool.{Bool}
 use mathlib.Core.List.{List}
@@ -16,11 +16,13 @@ pub record BatchEnd : Type 0 where
   pub answers : ℕ
   pub starts : List ℕ
   pub ends : List ℕ
+  pub hashes : List ℕ
   pub state : List ℕ
   pub out : List ℕ
 
-abbrev pub batchEnd : ℕ → (starts ends state out : List ℕ) → BatchEnd
-batchEnd n starts ends state out = record { answers = n; starts = starts; ends = ends; state = state; out = out }
+abbrev pub batchEnd : ℕ → (starts ends hashes state out : List ℕ) → BatchEnd
+batchEnd n starts ends hashes state out =
+    record { answers = n; starts = starts; ends = ends; hashes = hashes; state = state; out = out }
 
 -- no number of answers: the largest number there is
 abbrev pub NONE : ℕ
@@ -40,9 +42,10 @@ stateBy state before room WrongTables = state
 
 -- a batch, with those numbers before it and the room that it had
 abbrev pub across : (state : List ℕ) (before : Place) (room : ℕ) → Batched → BatchEnd
-across state before room x = batchEnd (answersNumber (x .batch)) (x .starts) (x .ends) (stateBy state before room (x .batch)) (x .out)
+across state before room x =
+    batchEnd (answersNumber (x .batch)) (x .starts) (x .ends) (x .hashes) (stateBy state before room (x .batch)) (x .out)
 
-unfoldable pub readBatchOf : (tag starts ends state out : List ℕ) (html checks : Bool) → BatchEnd
-readBatchOf tag starts ends state out html checks =
+unfoldable pub readBatchOf : (tag starts ends hashes state out : List ℕ) (html checks : Bool) → BatchEnd
+readBatchOf tag starts ends hashes state out html checks =
     across state (placeFrom (length tag) (getD state 0 0) (getD state 1 0)) (length out)
-    (batchOf tag (heldIn tag starts ends state html checks) out)
+    (batchOf tag (heldIn tag starts ends hashes state html checks) out)

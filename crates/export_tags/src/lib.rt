@@ -7,6 +7,7 @@ ghost use Rattle.name.specs.Declares.{declaresOf, declaresNumber};
 ghost use Rattle.name.specs.Verdict.{verdictOf, verdictNumber};
 ghost use Rattle.export_tags.specs.Reading.{batchEnd, readBatchOf};
 use tag_batch::Batch;
+use tag_step::Standing;
 
 // No number of answers.
 const NONE: usize = 18446744073709551615;
@@ -61,19 +62,25 @@ pub extern "C" fn mz_read_batch<'a>(
     tag: &[u8],
     starts: &'a mut [usize],
     ends: &'a mut [usize],
+    hashes: &'a mut [u32],
     state: &mut [usize; 4],
     html: bool,
     checks: bool,
     out: &mut [usize],
 ) -> usize
     ensures { λ r.
-        ⌜ batchEnd r (now (starts .exit)) (now (ends .exit)) (now (state .exit)) (now (out .exit))
-        ≡ readBatchOf (now (tag .entry)) (now (starts .entry)) (now (ends .entry)) (now (state .entry)) (now (out .entry)) html checks ⌝ }
+        ⌜ batchEnd r (now (starts .exit)) (now (ends .exit)) (now (hashes .exit)) (now (state .exit)) (now (out .exit))
+        ≡ readBatchOf (now (tag .entry)) (now (starts .entry)) (now (ends .entry)) (now (hashes .entry)) (now (state .entry)) (now (out .entry)) html checks ⌝ }
 {
     let place = export_cursor::place_from(tag.len(), state[0], state[1]);
-    let count = state[2];
+    let at = Standing {
+        place: place,
+        html: html,
+        checks: checks,
+        count: state[2],
+    };
     let room = out.len();
-    let batch = tag_batch::read_batch(tag, starts, ends, html, checks, count, place, out);
+    let batch = tag_batch::read_batch(tag, starts, ends, hashes, at, out);
     let Batch::Read(n, left, recorded, why) = batch else {
         return NONE;
     };

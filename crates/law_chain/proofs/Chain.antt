@@ -153,7 +153,7 @@ module _ (limit : ℕ) (tags : List Tag) (fine : FineTags tags) (done : NoneRefu
   -- The promise: pushed on a fresh resolver with no refusal, a chain of well-formed tags whose declarations have a yes
   -- verdict gives each name the meaning that its innermost declaration has. `element` is true for `resolve_element` and
   -- false for `resolve_attribute`. That a value has no `&`, tab or line end, so that it stands for itself
-  -- (`plain-stands`), and that a tag has at most 256 attributes, is not needed.
+  -- (`plain-stands`), and that a tag has no more attributes than the capacity, is not needed.
   pub innermost-declares : (name : List ℕ) (element : Bool) → handedBack x name (resolveOf name element x) ≡ meantOf tags name element
   unfolding resolveOf resolvePrefixOf amongOf prefixOf meantOf meantBy colonOf
   innermost-declares name element = rw valid (by (hasColon name)) where

@@ -11,7 +11,8 @@ use borrow.Author.Tests.{leb-true}
 use Rattle.scan.specs.First.{firstOf, firstTo, firstFrom}
 use Rattle.scan.specs.Bytes.{isSpace, notSpace, endsKey, isByte, part, sameBytes, bytesFrom, bytes}
 use Rattle.scan.proofs.Laws.{first}
-use Rattle.tag_keys.specs.Keys.{keyGood, keyBad, countGood, tableGood, nameAt, sameKey, oldestOf, earlierOf, checkedBy, checkedOf, writtenBy, countBy}
+use Rattle.tag_keys.specs.Hash.{timesPrime, hashFrom, hashOf}
+use Rattle.tag_keys.specs.Keys.{keyGood, hashIs, keyBad, countGood, tableGood, nameAt, sameKey, oldestOf, earlierOf, checkedBy, checkedOf, writtenBy, countBy}
 use Rattle.tag_keys.proofs.Laws.{keys-none}
 use Rattle.tag_step.specs.declared.Answer.the-variants.{SingleQ, ExpectedQuote, UnquotedValue, Duplicated}
 use Rattle.tag_step.specs.declared.IterState.{IterState}
@@ -54,7 +55,7 @@ marks =
     ∷ []
 
 marked : map was marks ≡ answersOf tag start
-unfolding firstOf firstTo firstFrom isSpace notSpace endsKey isByte part sameBytes bytesFrom bytes keyGood keyBad countGood tableGood nameAt sameKey oldestOf earlierOf checkedBy checkedOf writtenBy countBy isAt isQuote skipTo skipOf recoverOf keyEq keyTo keyFrom keyAt quoted closedOf quotedTo quotedOf unquotedTo otherOf valueBy valueFrom valueAt checkOf keptBy placeAt bareBy bareTo bareOf valuedBy valuedTo valuedOf readKey readAt stepFrom stepOf placeGood keysOf stateGood noKeys badReading leaves nextOf opened isEnd consUnless runOf answersOf was
+unfolding firstOf firstTo firstFrom isSpace notSpace endsKey isByte part sameBytes bytesFrom bytes timesPrime hashFrom hashOf keyGood hashIs keyBad countGood tableGood nameAt sameKey oldestOf earlierOf checkedBy checkedOf writtenBy countBy isAt isQuote skipTo skipOf recoverOf keyEq keyTo keyFrom keyAt quoted closedOf quotedTo quotedOf unquotedTo otherOf valueBy valueFrom valueAt checkOf keptBy placeAt bareBy bareTo bareOf valuedBy valuedTo valuedOf readKey readAt stepFrom stepOf placeGood keysOf stateGood noKeys badReading leaves nextOf opened isEnd consUnless runOf answersOf was
 marked = refl
 
 fits : AllFit tag (cuts marks)
@@ -76,8 +77,8 @@ damage-example = hurt .answers
 
 -- Whatever follows, the step is the same: it looks as far as the closing quote.
 pub stable-example : (u : List ℕ) → nextOf (bytes "a=\"1\" " ++ u) start ≡ nextOf (bytes "a=\"1\" ") start
-unfolding firstOf firstTo firstFrom isSpace notSpace endsKey isByte part sameBytes bytesFrom bytes keyGood keyBad countGood tableGood nameAt sameKey oldestOf earlierOf checkedBy checkedOf isAt isQuote skipTo skipOf recoverOf keyEq keyTo keyFrom keyAt checkOf placeGood keysOf noKeys opened lookIn lookFrom lookValue lookBy lookKey lookAt lookStart lookOf
-stable-example u = next-stable (bytes "a=\"1\" ") (bytes "a=\"1\" " ++ u) 6 start (grown (bytes "a=\"1\" ") u) (record { keys = keys-none (start .starts) (start .ends) 6; place = refl }) (omega arith)
+unfolding firstOf firstTo firstFrom isSpace notSpace endsKey isByte part sameBytes bytesFrom bytes timesPrime hashFrom hashOf keyGood hashIs keyBad countGood tableGood nameAt sameKey oldestOf earlierOf checkedBy checkedOf isAt isQuote skipTo skipOf recoverOf keyEq keyTo keyFrom keyAt checkOf placeGood keysOf noKeys opened lookIn lookFrom lookValue lookBy lookKey lookAt lookStart lookOf
+stable-example u = next-stable (bytes "a=\"1\" ") (bytes "a=\"1\" " ++ u) 6 start (grown (bytes "a=\"1\" ") u) (record { keys = keys-none (start .starts) (start .ends) (start .hashes) (bytes "a=\"1\" "); place = refl }) (omega arith)
 
 -- The last byte that is looked at has to be shared: `a=1` and `a='1'` share two, the step looks at the third.
 
@@ -90,11 +91,11 @@ shared = record { in-s = omega arith; in-t = omega arith; byte = by } where
   by (suc (suc k)) h = absurd (omega arith)
 
 differ : numbersOf (nextOf (bytes "a='1'") start .answer) ≡ numbersOf (nextOf (bytes "a=1") start .answer) → ⊥
-unfolding numbersOf firstOf firstTo firstFrom isSpace notSpace endsKey isByte part sameBytes bytesFrom bytes keyGood keyBad countGood tableGood nameAt sameKey oldestOf earlierOf checkedBy checkedOf writtenBy countBy isAt isQuote skipTo skipOf recoverOf keyEq keyTo keyFrom keyAt quoted closedOf quotedTo quotedOf unquotedTo otherOf valueBy valueFrom valueAt checkOf keptBy placeAt bareBy bareTo bareOf valuedBy valuedTo valuedOf readKey readAt stepFrom stepOf placeGood keysOf stateGood noKeys badReading leaves nextOf opened
+unfolding numbersOf firstOf firstTo firstFrom isSpace notSpace endsKey isByte part sameBytes bytesFrom bytes timesPrime hashFrom hashOf keyGood hashIs keyBad countGood tableGood nameAt sameKey oldestOf earlierOf checkedBy checkedOf writtenBy countBy isAt isQuote skipTo skipOf recoverOf keyEq keyTo keyFrom keyAt quoted closedOf quotedTo quotedOf unquotedTo otherOf valueBy valueFrom valueAt checkOf keptBy placeAt bareBy bareTo bareOf valuedBy valuedTo valuedOf readKey readAt stepFrom stepOf placeGood keysOf stateGood noKeys badReading leaves nextOf opened
 differ e = let z : _≡_ {A = ℕ} 102 3 = cc in omega arith
 
 pub stable-needs-less : ((s t : List ℕ) (m : ℕ) (st : IterState) → Agree s t m → Before s m st → lookNext s st ≤ m → nextOf t st ≡ nextOf s st) → ⊥
-unfolding firstOf firstTo firstFrom isSpace notSpace endsKey isByte part sameBytes bytesFrom bytes keyGood keyBad countGood tableGood nameAt sameKey oldestOf earlierOf checkedBy checkedOf isAt isQuote skipTo skipOf recoverOf keyEq keyTo keyFrom keyAt checkOf placeGood keysOf noKeys opened lookIn lookFrom lookValue lookBy lookKey lookAt lookStart lookOf
+unfolding firstOf firstTo firstFrom isSpace notSpace endsKey isByte part sameBytes bytesFrom bytes timesPrime hashFrom hashOf keyGood hashIs keyBad countGood tableGood nameAt sameKey oldestOf earlierOf checkedBy checkedOf isAt isQuote skipTo skipOf recoverOf keyEq keyTo keyFrom keyAt checkOf placeGood keysOf noKeys opened lookIn lookFrom lookValue lookBy lookKey lookAt lookStart lookOf
 stable-needs-less f =
     differ (ap (λ (x : Step). numbersOf (x .answer))
-    (f (bytes "a=1") (bytes "a='1'") 2 start shared (record { keys = keys-none (start .starts) (start .ends) 2; place = refl }) (omega arith)))
+    (f (bytes "a=1") (bytes "a='1'") 2 start shared (record { keys = keys-none (start .starts) (start .ends) (start .hashes) (bytes "a="); place = refl }) (omega arith)))

@@ -86,7 +86,7 @@ closed-order {s} {eq = eq} {v = v} d =
     (omega arith, omega (arith, first notSpace s (eq + 1) (omega arith) .ahead), omega (arith, first (isByte (getD s v 0)) s (v + 1) (omega arith) .ahead))
 
 abbrev pub closedReading : List ℕ → Bool → Keys → Span → ℕ → ℕ → Reading
-closedReading s checks k key v e = reading (closedOf (getD s v 0) key (span (v + 1) e)) (keptBy checks k key (checkOf s checks k key))
+closedReading s checks k key v e = reading (closedOf (getD s v 0) key (span (v + 1) e)) (keptBy s checks k key (checkOf s checks k key))
 
 -- what holds of every step in XML mode that answers a quoted value
 module _ (s : List ℕ) (checks : Bool) (k : Keys) (o : ℕ) (h : o ≤ length s) (q : ℕ) (qkey value : Span) (P : Reading → Type 0)
@@ -102,7 +102,7 @@ module _ (s : List ℕ) (checks : Bool) (k : Keys) (o : ℕ) (h : o ≤ length s
   unfolding valuedTo valuedBy isQuoted closedOf
   valued-cut key eq r by l (Fresh n) is =
       rw is
-      (value-ways s false key eq _ refl (λ (x : Found) (_ : ℕ). Goal (reading x (keptBy checks k key (checkOf s checks k key))))
+      (value-ways s false key eq _ refl (λ (x : Found) (_ : ℕ). Goal (reading x (keptBy s checks k key (checkOf s checks k key))))
       (λ _. other _ refl)
       (λ e v-in b i e-in same.
       closed key eq _ e (record { read = r; key-by = by; eq-in = l; count = n; fresh = sym is; here = refl; v-in = v-in; there = i; e-in = e-in })

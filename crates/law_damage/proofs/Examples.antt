@@ -1,6 +1,6 @@
 -- The damage theorem on tags: one table of what is read and what is said, with a single statement. Two rows show it; the
 -- others each break one premise, and there what is read is not what the theorem would say.
-use Prim.Native.Nat.{ℕ}
+use Prim.Native.Nat.{ℕ, _-_}
 use Prim.Native.String.{String}
 use mathlib.Core.Path.{_≡_, refl}
 use mathlib.Core.Bool.{Bool, true, false, not, _||_}
@@ -10,10 +10,11 @@ use lib.ListN.{length, getD, replicate}
 use lib.Dec.{eqb, ltb, leb}
 use Rattle.scan.specs.First.{firstOf, firstTo, firstFrom}
 use Rattle.scan.specs.Bytes.{isSpace, notSpace, endsKey, isByte, part, sameBytes, bytesFrom, bytes}
-use Rattle.tag_keys.specs.Keys.{keyGood, keyBad, countGood, tableGood, nameAt, sameKey, oldestOf, earlierOf, checkedBy, checkedOf, writtenBy, countBy}
+use Rattle.tag_keys.specs.Hash.{timesPrime, hashFrom, hashOf}
+use Rattle.tag_keys.specs.Keys.{capacity, keyGood, hashIs, keyBad, countGood, tableGood, nameAt, sameKey, oldestOf, earlierOf, checkedBy, checkedOf, writtenBy, countBy}
 use Rattle.tag_step.specs.declared.Place.the-variants.{Next, SkipValue}
 use Rattle.tag_step.specs.declared.Answer.{Answer}
-use Rattle.tag_step.specs.declared.Answer.the-variants.{SingleQ, Unquoted, ExpectedEq, ExpectedQuote, UnquotedValue, Duplicated}
+use Rattle.tag_step.specs.declared.Answer.the-variants.{SingleQ, Unquoted, ExpectedEq, ExpectedQuote, UnquotedValue, Duplicated, BadState}
 use Rattle.tag_step.specs.declared.IterState.{IterState}
 use Rattle.tag_step.specs.Read.{span, isAt, isQuote, skipTo, skipOf, recoverOf, keyEq, keyTo, keyFrom, keyAt, quoted, closedOf, quotedTo, quotedOf, unquotedTo, otherOf, valueBy, valueFrom, valueAt}
 use Rattle.tag_step.specs.Next.{checkOf, keptBy, placeAt, bareBy, bareTo, bareOf, valuedBy, valuedTo, valuedOf, readKey, readAt, stepFrom, stepOf, placeGood, keysOf, stateGood, noKeys, badReading, leaves, nextOf, opened}
@@ -70,7 +71,7 @@ abbrev from-a-skip : Row
 from-a-skip =
     record {
       tag = "\"' x='1' y=\"23\" x=w v";
-      state = record { place = SkipValue 0; html = false; «check_duplicates» = false; starts = noKeys .starts; ends = noKeys .ends; count = 0 };
+      state = record { place = SkipValue 0; html = false; «check_duplicates» = false; starts = noKeys .starts; ends = noKeys .ends; hashes = noKeys .hashes; count = 0 };
       marks =
           struck 39 (span 3 4) (span 6 7) (bytes "longer\"")
           ∷ struck 34 (span 9 10) (span 12 14) (bytes "=0")
@@ -137,17 +138,17 @@ empty =
       gives = UnquotedValue 3 ∷ [];
     }
 
--- a recorded key that points into the value
+-- a recorded key that points into the value: other bytes stand there then, and the kept hash is not theirs
 abbrev recorded : Row
 recorded =
     record {
       tag = "a=\"b\" b='1'";
-      state = record { place = Next 0; html = false; «check_duplicates» = true; starts = 3 ∷ replicate 255 0; ends = 4 ∷ replicate 255 0; count = 1 };
+      state = record { place = Next 0; html = false; «check_duplicates» = true; starts = 3 ∷ replicate (capacity - 1) 0; ends = 4 ∷ replicate (capacity - 1) 0; hashes = hashOf (bytes "b") ∷ replicate (capacity - 1) 0; count = 1 };
       marks = struck 34 (span 0 1) (span 3 4) (bytes "x") ∷ kept (Duplicated 6 3) ∷ [];
       hurt = "a=x b='1'";
       holds = true ∷ true ∷ true ∷ true ∷ true ∷ false ∷ [];
       says = UnquotedValue 2 ∷ Duplicated 4 3 ∷ [];
-      gives = UnquotedValue 2 ∷ SingleQ (span 4 5) (span 7 8) ∷ [];
+      gives = BadState ∷ [];
     }
 
 -- HTML mode
@@ -188,7 +189,7 @@ abbrev table : List Row
 table = both-ways ∷ from-a-skip ∷ close ∷ quote ∷ space ∷ empty ∷ recorded ∷ html ∷ []
 
 rows : map computed table ≡ map written table
-unfolding firstOf firstTo firstFrom isSpace notSpace endsKey isByte part sameBytes bytesFrom bytes keyGood keyBad countGood tableGood nameAt sameKey oldestOf earlierOf checkedBy checkedOf writtenBy countBy isAt isQuote skipTo skipOf recoverOf keyEq keyTo keyFrom keyAt quoted closedOf quotedTo quotedOf unquotedTo otherOf valueBy valueFrom valueAt checkOf keptBy placeAt bareBy bareTo bareOf valuedBy valuedTo valuedOf readKey readAt stepFrom stepOf placeGood keysOf stateGood noKeys badReading leaves nextOf opened isEnd consUnless runOf answersOf was wholeValue cuts damaged added takenOut moved moveAnswer becomes
+unfolding firstOf firstTo firstFrom isSpace notSpace endsKey isByte part sameBytes bytesFrom bytes timesPrime hashFrom hashOf keyGood hashIs keyBad countGood tableGood nameAt sameKey oldestOf earlierOf checkedBy checkedOf writtenBy countBy isAt isQuote skipTo skipOf recoverOf keyEq keyTo keyFrom keyAt quoted closedOf quotedTo quotedOf unquotedTo otherOf valueBy valueFrom valueAt checkOf keptBy placeAt bareBy bareTo bareOf valuedBy valuedTo valuedOf readKey readAt stepFrom stepOf placeGood keysOf stateGood noKeys badReading leaves nextOf opened isEnd consUnless runOf answersOf was wholeValue cuts damaged added takenOut moved moveAnswer becomes
 rows = refl
 
 -- and in the rows that break a premise what is read is not what the theorem would say

@@ -16,6 +16,7 @@ use Rattle.tag_keys.specs.declared.Earlier.{Earlier}
 use Rattle.tag_keys.specs.declared.Earlier.the-variants.{At, Nothing}
 use Rattle.tag_keys.specs.declared.Checked.{Checked}
 use Rattle.tag_keys.specs.declared.Checked.the-variants.{Fresh, Same, Full}
+use Rattle.tag_keys.specs.Hash.{hashOf}
 use Rattle.tag_keys.specs.Keys.{capacity, nameAt, sameKey, oldestOf, earlierOf, checkedBy, checkedOf, writtenBy, countBy}
 use Rattle.tag_keys.proofs.Laws.{earlier-at, earlier-past}
 use Rattle.tag_step.specs.declared.Span.{Span}
@@ -106,8 +107,8 @@ module _ {f : ℕ → ℕ} {s t : List ℕ} {ks kt : Keys} (like : NamesLike f s
 module _ {f : ℕ → ℕ} {s t : List ℕ} {ks kt : Keys} (like : KeysLike f s t ks kt) (key : Span) (alike : part s (key .start) (key .end) ≡ part t (f (key .start)) (f (key .end))) where
   -- one key more, at index count
   added-names : ks .count < capacity → NamesLike f s t
-      (record { starts = set (ks .starts) (ks .count) (key .start); ends = set (ks .ends) (ks .count) (key .end); count = ks .count + 1 })
-      (record { starts = set (kt .starts) (kt .count) (f (key .start)); ends = set (kt .ends) (kt .count) (f (key .end)); count = ks .count + 1 })
+      (record { starts = set (ks .starts) (ks .count) (key .start); ends = set (ks .ends) (ks .count) (key .end); hashes = set (ks .hashes) (ks .count) (hashOf (part s (key .start) (key .end))); count = ks .count + 1 })
+      (record { starts = set (kt .starts) (kt .count) (f (key .start)); ends = set (kt .ends) (kt .count) (f (key .end)); hashes = set (kt .hashes) (kt .count) (hashOf (part t (f (key .start)) (f (key .end)))); count = ks .count + 1 })
   unfolding nameAt
   added-names h =
       record {
@@ -137,12 +138,12 @@ module _ {f : ℕ → ℕ} {s t : List ℕ} {ks kt : Keys} (like : KeysLike f s 
 
   -- the keys that the verdict leaves
   pub kept-move : (checks : Bool)
-      → KeysLike f s t (keptBy checks ks key (checkOf s checks ks key)) (keptBy checks kt (moveSpan f key) (moveChecked f (checkOf s checks ks key)))
+      → KeysLike f s t (keptBy s checks ks key (checkOf s checks ks key)) (keptBy t checks kt (moveSpan f key) (moveChecked f (checkOf s checks ks key)))
   unfolding checkOf checkedOf checkedBy keptBy writtenBy countBy
   kept-move false = record { names = record { count = refl; start = like .names .start; bytes = like .names .bytes }; room-s = like .room-s; room-t = like .room-t }
   kept-move true = by (earlierIn s ks key) _ refl where
     by : (e : Earlier) (b : Bool) → ltb (ks .count) capacity ≡ b
-        → KeysLike f s t (keptBy true ks key (checkedBy (ks .count) e)) (keptBy true kt (moveSpan f key) (moveChecked f (checkedBy (ks .count) e)))
+        → KeysLike f s t (keptBy s true ks key (checkedBy (ks .count) e)) (keptBy t true kt (moveSpan f key) (moveChecked f (checkedBy (ks .count) e)))
     by (At p) b h = like
     by Nothing true h =
         rw h

@@ -98,9 +98,9 @@ module _ {f : ℕ → ℕ} {s t : List ℕ} {o : ℕ} {checks : Bool} {ks kt : K
 
   -- the keys that the step leaves
   hurtKeys : Keys
-  hurtKeys = keptBy checks kt (moveSpan f key) (moveChecked f (checkOf s checks ks key))
+  hurtKeys = keptBy t checks kt (moveSpan f key) (moveChecked f (checkOf s checks ks key))
 
-  keys-hurt : KeysLike f s t (keptBy checks ks key (checkOf s checks ks key)) hurtKeys
+  keys-hurt : KeysLike f s t (keptBy s checks ks key (checkOf s checks ks key)) hurtKeys
   unfolding hurtKeys
   keys-hurt = keeps-move w checks key eq (cl .key-by) (omega (arith, closed-order cl .1)) like
 
@@ -218,7 +218,7 @@ module _ (f : ℕ → ℕ) (s t : List ℕ) (checks : Bool) where
       -- one that is struck, over the numbers found
       closed-hurt : (r : List ℕ) (key : Span) (eq v e : ℕ) → Closed s checks ks o key eq v e → Rel f s t o (cutAt v e r ∷ cuts ms)
           → Fits s (cutAt v e r)
-          → map was ms ≡ runS n (keptBy checks ks key (checkOf s checks ks key)) (From (e + 1))
+          → map was ms ≡ runS n (keptBy s checks ks key (checkOf s checks ks key)) (From (e + 1))
           → Apart (length s) (e + 1) (cuts ms)
           → runT (suc n) kt (From (f o)) ≡ UnquotedValue (f v) ∷ map (becomes f) ms
       unfolding Rel runFrom isEnd consUnless
@@ -229,7 +229,7 @@ module _ (f : ℕ → ℕ) (s t : List ℕ) (checks : Bool) where
           rw (
             read-hurt like cl (rel .0) (rel .1) fits w₂ far,
             recover-hurt like cl (rel .0) (rel .1) fits w₂ far,
-            after-hurt (keptBy checks ks key (checkOf s checks ks key)) _ (e + 1) keys (rel .2) rest (ltb (e + 1) (length s)) refl,
+            after-hurt (keptBy s checks ks key (checkOf s checks ks key)) _ (e + 1) keys (rel .2) rest (ltb (e + 1) (length s)) refl,
           )
 
       struck-hurt : (q : ℕ) (key value : Span) (run : List ℕ) → o ≤ length s → Rel f s t o (wholeValue value run ∷ cuts ms)
@@ -251,7 +251,7 @@ module _ (f : ℕ → ℕ) (s t : List ℕ) (checks : Bool) where
           let one = cut-closed value v e run same in
           rw one
           (closed-hurt run k eq v e cl (rw one at rel) (rw one at fits)
-          (rest ∙ ap (runS n (keptBy checks ks k (checkOf s checks ks k))) z)
+          (rest ∙ ap (runS n (keptBy s checks ks k (checkOf s checks ks k))) z)
           (subst (λ (x : Start). ApartStart (length s) x (cuts ms)) z d)))
 
   next-apart : (n : ℕ) (ms : List Marked) (ks : Keys) (o : ℕ) → map was ms ≡ runS n (nextKeys s checks ks o) (nextStart s checks ks o)

@@ -4,13 +4,16 @@ use mathlib.Core.Path.{_≡_, refl, sym, ap, _∙_}
 use mathlib.Core.Bool.{Bool, true}
 use mathlib.Core.List.{List, _++_}
 use native.Mathlib.Omega.{arith}
-use lib.ListN.{length, getD, length-append, List·getD-append}
+use lib.ListN.{length, getD, take, length-append, List·getD-append}
+use lib.Seq.{length-take-le, getD-take, take-take, ext-getD}
 use borrow.Author.Tests.{lt-ltb}
+use Rattle.scan.specs.Bytes.{part}
 use Rattle.scan.proofs.Move.{Window, part-move}
 use Rattle.tag_keys.specs.declared.Checked.{Checked}
 use Rattle.tag_keys.specs.declared.Checked.the-variants.{Fresh, Same, Full}
-use Rattle.tag_keys.specs.Keys.{KeysIn, nameAt}
+use Rattle.tag_keys.specs.Keys.{KeysIn, tableGood, nameAt}
 use Rattle.tag_keys.proofs.Laws.{in-table, keys-longer}
+use Rattle.tag_step.specs.declared.Span.{Span}
 use Rattle.tag_step.specs.declared.Place.{Place}
 use Rattle.tag_step.specs.declared.Place.the-variants.{Done, Next, SkipValue, SkipEqValue}
 use Rattle.tag_step.specs.declared.Start.{Start}
@@ -19,14 +22,14 @@ use Rattle.tag_step.specs.declared.Answer.{Answer}
 use Rattle.tag_step.specs.declared.Answer.the-variants.{End, DoubleQ, SingleQ, Unquoted, Empty, ExpectedEq, ExpectedValue, UnquotedValue, ExpectedQuote, Duplicated, KeyTableFull, BadState}
 use Rattle.tag_step.specs.declared.Found.{Found}
 use Rattle.tag_step.specs.Read.{recoverOf}
-use Rattle.tag_step.specs.Next.{Keys, Reading, checkOf, bareBy, bareOf, bareTo, valuedBy, valuedOf, valuedTo, readKey, readAt, stepFrom, stepOf, placeGood, keysOf, stateGood, nextOf}
+use Rattle.tag_step.specs.Next.{Keys, Reading, checkOf, keptBy, bareBy, bareOf, bareTo, valuedBy, valuedOf, valuedTo, readKey, readAt, stepFrom, stepOf, placeGood, keysOf, stateGood, nextOf}
 use Rattle.tag_step.specs.Look.{lookAt, lookStart, lookOf}
 use Rattle.tag_step.proofs.Whole.{at-in, starts-in}
 use Rattle.tag_step.proofs.Ways.{step-ways}
 use Rattle.law_damage.specs.Damage.{moveAnswer, movePlace}
 use Rattle.law_damage.specs.Stable.{Agree, NextStable}
 use Rattle.law_damage.proofs.Recorded.{NamesLike, moveChecked}
-use Rattle.law_damage.proofs.Step.{moveFound, key-move, place-move, bare-move, valued-move, look-past, checks-move, recover-move}
+use Rattle.law_damage.proofs.Step.{moveFound, key-move, place-move, bare-move, valued-move, look-past, alike, checks-move, recover-move}
 use Rattle.law_damage.proofs.Begin.{begins, good-move}
 
 abbrev same : ℕ → ℕ
@@ -75,14 +78,33 @@ module _ (s t : List ℕ) (m : ℕ) (agree : Agree s t m) where
         inside' = omega arith;
       }
 
-  names-like : (k : Keys) → KeysIn (k .starts) (k .ends) (k .count) m → NamesLike same s t k k
+  -- what they share, as a tag
+  front-length : length (take m s) ≡ m
+  front-length = length-take-le m s (agree .in-s)
+
+  front-same : take m s ≡ take m t
+  front-same =
+      ext-getD 0 (take m s) (take m t) (front-length ∙ sym (length-take-le m t (agree .in-t)))
+      (λ k h. getD-take m s k 0 (omega (arith, front-length)) ∙ agree .byte k (omega (arith, front-length)) ∙ sym (getD-take m t k 0 (omega (arith, front-length))))
+
+  -- a tag that begins so goes on with keys recorded there
+  keys-there : (u : List ℕ) → m ≤ length u → take m s ≡ take m u → (k : Keys) → KeysIn (k .starts) (k .ends) (k .hashes) (k .count) (take m s) → tableGood u (k .starts) (k .ends) (k .hashes) (k .count) ≡ true
+  keys-there u h e k i =
+      in-table u (k .starts) (k .ends) (k .hashes) (k .count)
+      (keys-longer (k .starts) (k .ends) (k .hashes) (k .count) (take m s) u (omega (arith, front-length)) (rw front-length (take-take m m s (omega arith) ∙ e)) i)
+
+  names-like : (k : Keys) → KeysIn (k .starts) (k .ends) (k .hashes) (k .count) (take m s) → NamesLike same s t k k
   unfolding nameAt
   names-like k i =
       record {
         count = refl;
         start = λ j h. refl;
-        bytes = λ j h. part-move (window 0 (omega arith)) (getD (k .starts) j 0) (getD (k .ends) j 0) (omega arith) (omega (arith, i .inside j h .0)) (i .inside j h .1) (omega (arith, i .inside j h .1, agree .in-s));
+        bytes = λ j h. part-move (window 0 (omega arith)) (getD (k .starts) j 0) (getD (k .ends) j 0) (omega arith) (omega (arith, i .inside j h .0)) (omega (arith, i .inside j h .1, front-length)) (omega (arith, i .inside j h .1, front-length, agree .in-s));
       }
+
+  kept-same : (checks : Bool) (k : Keys) (key : Span) (c : Checked) → part s (key .start) (key .end) ≡ part t (key .start) (key .end) → keptBy t checks k key c ≡ keptBy s checks k key c
+  unfolding keptBy
+  kept-same checks k key c e = rw e
 
   read-same : (html checks : Bool) (k : Keys) (o : ℕ) → o ≤ m → NamesLike same s t k k → lookAt s html checks k o < m
       → readAt t html checks k o ≡ readAt s html checks k o
@@ -94,12 +116,12 @@ module _ (s t : List ℕ) (m : ℕ) (agree : Agree s t m) where
       (λ key at e i mode l. rw (key-move w (rw e l), e, mode, place-move w at (omega arith) l, place-same _))
       (λ key at c e i mode is l.
       let found = ap (bareBy t key at) (sym (checked-same (checkOf s checks k key))) ∙ bare-move w key at (checkOf s checks k key) (omega arith) l ∙ found-same _ in
-      rw (is, key-move w (rw e l), e, mode, checks-move w checks key at i l like, checked-same (checkOf s checks k key), found))
+      rw (is, key-move w (rw e l), e, mode, checks-move w checks key at i l like, checked-same (checkOf s checks k key), kept-same checks k key (checkOf s checks k key) (alike w checks key at i l), found))
       (λ key eq c e i a is l.
       let g = at-in s 61 eq a in
       let r : eq < m = omega (arith, look-past s html key eq g c) in
       let found = ap (valuedBy t html key eq) (sym (checked-same (checkOf s checks k key))) ∙ valued-move w html key eq _ refl (omega arith) g (checkOf s checks k key) (rw is at l) ∙ found-same _ in
-      rw (is, key-move w (rw e r), e, checks-move w checks key eq i r like, checked-same (checkOf s checks k key), found))
+      rw (is, key-move w (rw e r), e, checks-move w checks key eq i r like, checked-same (checkOf s checks k key), kept-same checks k key (checkOf s checks k key) (alike w checks key eq i r), found))
 
 -- a step looks no less far than to where it begins
 look-from : (s : List ℕ) (html checks : Bool) (k : Keys) (o : ℕ) → o ≤ length s → o ≤ lookAt s html checks k o
@@ -123,8 +145,8 @@ next-stable s t m st agree b = by (recoverOf s (st .place)) refl where
       let still = place-same (st .place) in
       let good : placeGood t (st .place) ≡ true = ap (placeGood t) (sym still) ∙ good-move w (st .place) (omega (arith, x .upto)) ∙ b .place in
       let goes : recoverOf t (st .place) ≡ From o = ap (recoverOf t) (sym still) ∙ recover-move w (st .place) (x .within) (rw e lt) ∙ rw e in
-      let in-s = in-table (length s) (st .starts) (st .ends) (st .count) (keys-longer (st .starts) (st .ends) (st .count) m (length s) (omega (arith, agree .in-s)) (b .keys)) in
-      let in-t = in-table (length t) (st .starts) (st .ends) (st .count) (keys-longer (st .starts) (st .ends) (st .count) m (length t) (agree .in-t) (b .keys)) in
+      let in-s = keys-there s t m agree s (agree .in-s) refl (keysOf st) (b .keys) in
+      let in-t = keys-there s t m agree t (agree .in-t) (front-same s t m agree) (keysOf st) (b .keys) in
       rw (in-s, in-t, good, b .place, goes, e, read-same s t m agree (st .html) (st .«check_duplicates») (keysOf st) o (omega arith) (names-like s t m agree (keysOf st) (b .keys)) l)
 
 -- a tag that grows

@@ -267,14 +267,14 @@ pub record ReadLike (f : ℕ → ℕ) (s t : List ℕ) (x y : Reading) : Type 0 
 
 -- the check of a key that was read before m
 module _ {f : ℕ → ℕ} {s t : List ℕ} {o m : ℕ} (w : Window f s t o m) (checks : Bool) (key : Span) (x : ℕ) (i : KeyBy (length s) o key x) (l : x < m) where
-  alike : part s (key .start) (key .end) ≡ part t (f (key .start)) (f (key .end))
+  pub alike : part s (key .start) (key .end) ≡ part t (f (key .start)) (f (key .end))
   alike = part-move w (key .start) (key .end) (omega arith) (omega arith) (omega arith) (omega arith)
 
   pub checks-move : {ks kt : Keys} → NamesLike f s t ks kt → checkOf t checks kt (moveSpan f key) ≡ moveChecked f (checkOf s checks ks key)
   checks-move like = check-move like key alike checks
 
   pub keeps-move : {ks kt : Keys} → KeysLike f s t ks kt
-      → KeysLike f s t (keptBy checks ks key (checkOf s checks ks key)) (keptBy checks kt (moveSpan f key) (moveChecked f (checkOf s checks ks key)))
+      → KeysLike f s t (keptBy s checks ks key (checkOf s checks ks key)) (keptBy t checks kt (moveSpan f key) (moveChecked f (checkOf s checks ks key)))
   keeps-move like = kept-move like key alike checks
 
 module _ {f : ℕ → ℕ} {s t : List ℕ} {o m : ℕ} (w : Window f s t o m) (html checks : Bool) {ks kt : Keys} (like : KeysLike f s t ks kt) where

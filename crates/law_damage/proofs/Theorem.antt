@@ -74,7 +74,7 @@ nothing-cut s st ms d same e =
 
 -- the state of these parts
 abbrev stateOf : Bool → Bool → Keys → Place → IterState
-stateOf html checks k p = record { place = p; html = html; «check_duplicates» = checks; starts = k .starts; ends = k .ends; count = k .count }
+stateOf html checks k p = record { place = p; html = html; «check_duplicates» = checks; starts = k .starts; ends = k .ends; hashes = k .hashes; count = k .count }
 
 -- more budget than bytes changes nothing
 run-whole : (n : ℕ) (s : List ℕ) (checks : Bool) (k : Keys) (x : Start) → StartIn (length s) x → length s ≤ n
@@ -89,15 +89,15 @@ run-whole n s checks k x i h =
 
 -- The three ways to begin.
 
-module _ (s : List ℕ) (checks : Bool) (k : Keys) (p : Place) (ms : List Marked) (none : k .count ≡ 0) (starts : length (k .starts) ≡ capacity) (ends : length (k .ends) ≡ capacity) where
+module _ (s : List ℕ) (checks : Bool) (k : Keys) (p : Place) (ms : List Marked) (none : k .count ≡ 0) (starts : length (k .starts) ≡ capacity) (ends : length (k .ends) ≡ capacity) (hashes : length (k .hashes) ≡ capacity) where
   abbrev reader : IterState
   reader = stateOf false checks k p
 
   sized : Sized reader
-  sized = record { starts = starts; ends = ends }
+  sized = record { starts = starts; ends = ends; hashes = hashes }
 
-  table : (t : List ℕ) → tableGood (length t) (k .starts) (k .ends) (k .count) ≡ true
-  table t = in-table (length t) (k .starts) (k .ends) (k .count) (subst (λ (n : ℕ). KeysIn (k .starts) (k .ends) n (length t)) (sym none) (keys-none (k .starts) (k .ends) (length t)))
+  table : (t : List ℕ) → tableGood t (k .starts) (k .ends) (k .hashes) (k .count) ≡ true
+  table t = in-table t (k .starts) (k .ends) (k .hashes) (k .count) (subst (λ (n : ℕ). KeysIn (k .starts) (k .ends) (k .hashes) n t) (sym none) (keys-none (k .starts) (k .ends) (k .hashes) t))
 
   resumes : (t : List ℕ) → placeGood t p ≡ true → answersOf t reader ≡ answersFrom t false checks k (recoverOf t p)
   unfolding stateGood keysOf
@@ -185,9 +185,9 @@ damage-moves s st ms h e al =
     let of : Bool → IterState = λ html. stateOf html (st .«check_duplicates») (keysOf st) (st .place) in
     let is : of false ≡ st = ap of (sym (h .xml)) in
     subst (λ (x : IterState). Hurt s x ms) is
-    (moves s (st .«check_duplicates») (keysOf st) (st .place) ms (h .count) (h .starts) (h .ends) (e ∙ ap (answersOf s) (sym is)) al)
+    (moves s (st .«check_duplicates») (keysOf st) (st .place) ms (h .count) (h .starts) (h .ends) (h .hashes) (e ∙ ap (answersOf s) (sym is)) al)
 
 -- such a state: a reader that is opened anywhere
 pub opened-none : (o : ℕ) (checks : Bool) → NoneRecorded (opened o false checks)
 unfolding opened noKeys
-opened-none o checks = record { xml = refl; count = refl; starts = length-replicate {A = ℕ} capacity 0; ends = length-replicate {A = ℕ} capacity 0 }
+opened-none o checks = record { xml = refl; count = refl; starts = length-replicate {A = ℕ} capacity 0; ends = length-replicate {A = ℕ} capacity 0; hashes = length-replicate {A = ℕ} capacity 0 }

@@ -24,13 +24,14 @@ use Rattle.tag_step.specs.Run.{answersOf}
 
 -- What is read, and what is chosen.
 
--- "in XML mode from no recorded keys": from any place, with either setting of checks. The unused places of the two tables,
+-- "in XML mode from no recorded keys": from any place, with either setting of checks. The unused places of the tables,
 -- which are arrays of the capacity, may hold anything.
 pub record NoneRecorded (st : IterState) : Type 0 where
   pub xml : st .html ≡ false
   pub count : st .count ≡ 0
   pub starts : length (st .starts) ≡ capacity
   pub ends : length (st .ends) ≡ capacity
+  pub hashes : length (st .hashes) ≡ capacity
 
 -- "any attributes answered as quoted": of the old answers, one after another, each is kept, or it is an attribute in the
 -- quotes q (34 for `"`, else `'`) and is struck: its value gives way to a run.

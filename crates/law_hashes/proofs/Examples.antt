@@ -1,6 +1,6 @@
 -- The theorems on hashes applied where every name collides with every other of its length: the hash of a name is its length,
 -- the set is asked from the second recorded key on.
-use Prim.Native.Nat.{ℕ, zero, suc, _<_}
+use Prim.Native.Nat.{ℕ, zero, suc, _-_, _<_}
 use mathlib.Core.Path.{_≡_, refl}
 use mathlib.Core.Bool.{Bool, true}
 use mathlib.Core.List.{List, [], _∷_}
@@ -24,10 +24,10 @@ tag = bytes "a b c a bb"
 
 -- tables of the capacity's size, in which a and b are recorded
 abbrev starts : List ℕ
-starts = 0 ∷ 2 ∷ replicate 254 0
+starts = 0 ∷ 2 ∷ replicate (capacity - 2) 0
 
 abbrev ends : List ℕ
-ends = 1 ∷ 3 ∷ replicate 254 0
+ends = 1 ∷ 3 ∷ replicate (capacity - 2) 0
 
 -- a set that holds the number 1 and no other: the hash of both
 abbrev ones : ℕ → Bool
@@ -62,9 +62,9 @@ crate-way-example = (
 )
 
 -- c is recorded third, and the set after that holds the hash of all three
-pub crate-keeps-example : (k : ℕ) → k < 3 → insert ones (hash (bytes "c")) (hash (nameAt tag (0 ∷ 2 ∷ 4 ∷ replicate 253 0) (1 ∷ 3 ∷ 5 ∷ replicate 253 0) k)) ≡ true
+pub crate-keeps-example : (k : ℕ) → k < 3 → insert ones (hash (bytes "c")) (hash (nameAt tag (0 ∷ 2 ∷ 4 ∷ replicate (capacity - 3) 0) (1 ∷ 3 ∷ 5 ∷ replicate (capacity - 3) 0) k)) ≡ true
 unfolding firstOf firstTo part sameBytes bytesFrom bytes nameAt sameKey oldestOf earlierOf checkedBy checkedOf writtenBy countBy asked hashesAfter
-crate-keeps-example = crate-way-keeps hash 2 (held ones) tag starts ends 2 4 5 (omega arith, ones-cover) (record { room = λ _. (omega arith, omega arith) }) .1 .has
+crate-keeps-example = crate-way-keeps hash 2 (held ones) tag starts ends 2 4 5 (omega arith, ones-cover) (record { places = (omega arith, omega arith) }) .1 .has
 
 abbrev key : ℕ → ℕ → Key
 key from to = record { from = from; to = to }
@@ -72,4 +72,4 @@ key from to = record { from = from; to = to }
 -- all five, from no recorded keys: the fourth is the first again
 pub crate-run-example : crateChecksOf hash 2 (key 0 1 ∷ key 2 3 ∷ key 4 5 ∷ key 6 7 ∷ key 8 10 ∷ []) unset tag (replicate capacity 0) (replicate capacity 0) 0 ≡ Fresh 1 ∷ Fresh 2 ∷ Fresh 3 ∷ Same 0 ∷ Fresh 4 ∷ []
 unfolding firstOf firstTo part sameBytes bytesFrom bytes nameAt sameKey oldestOf earlierOf checkedBy checkedOf writtenBy countBy checksOf
-crate-run-example = crate-run-agrees hash 2 (key 0 1 ∷ key 2 3 ∷ key 4 5 ∷ key 6 7 ∷ key 8 10 ∷ []) unset tag (replicate capacity 0) (replicate capacity 0) 0 tt (record { room = λ _. (omega arith, omega arith) })
+crate-run-example = crate-run-agrees hash 2 (key 0 1 ∷ key 2 3 ∷ key 4 5 ∷ key 6 7 ∷ key 8 10 ∷ []) unset tag (replicate capacity 0) (replicate capacity 0) 0 tt (record { places = (omega arith, omega arith) })

@@ -19,9 +19,9 @@ use Rattle.tag_keys.specs.declared.Earlier.{Earlier}
 use Rattle.tag_keys.specs.declared.Earlier.the-variants.{At, Nothing}
 use Rattle.tag_keys.specs.declared.Checked.{Checked}
 use Rattle.tag_keys.specs.declared.Checked.the-variants.{Fresh, Full}
-use Rattle.tag_keys.specs.Keys.{capacity, KeyRoom, nameAt, earlierOf, checkedBy, checkedOf, writtenBy, countBy}
-use Rattle.law_hashes.specs.Hash.{Hashes, unset, held, insert, Key, seeded, asked, hashedEarlierOf, Covers, crateEarlierOf, hashesAfter, Kept, crateChecksOf, checksOf}
-use Rattle.tag_keys.proofs.Laws.{earlier-none, room-stays}
+use Rattle.tag_keys.specs.Keys.{capacity, nameAt, earlierOf, checkedBy, checkedOf, writtenBy, countBy}
+use Rattle.law_hashes.specs.Hash.{Hashes, unset, held, insert, Room, Key, seeded, asked, hashedEarlierOf, Covers, crateEarlierOf, hashesAfter, Kept, crateChecksOf, checksOf}
+use Rattle.tag_keys.proofs.Laws.{earlier-none, written-length}
 
 -- a set keeps what it holds
 pub insert-keeps : (s : ℕ → Bool) (x y : ℕ) → s y ≡ true → insert s x y ≡ true
@@ -67,6 +67,11 @@ count-grows count Nothing = by (ltb count capacity) where
   by : (t : Bool) → count ≤ countBy (pick t (Fresh (count + 1)) Full) count
   by true = omega arith
   by false = omega arith
+
+-- no verdict takes places away
+room-after : (v : Checked) (starts ends : List ℕ) (count from to : ℕ) → Room starts ends → Room (writtenBy true v starts count from) (writtenBy true v ends count to)
+room-after v starts ends count from to r =
+    record { places = (omega (arith, r .places, written-length true v starts count from), omega (arith, r .places, written-length true v ends count to)) }
 
 module _ (h : List ℕ → ℕ) where
   -- more in the set does no harm
@@ -118,7 +123,7 @@ module _ (h : List ℕ → ℕ) where
   asked-covers small (held s) tag starts ends count k = k .1
 
   -- Whatever the verdict, the set with the key's hash holds the hash of every name that is recorded then.
-  pub covers-after : (s : ℕ → Bool) (tag starts ends : List ℕ) (count from to : ℕ) (e : Earlier) → KeyRoom true starts ends → Covers h s tag starts ends count →
+  pub covers-after : (s : ℕ → Bool) (tag starts ends : List ℕ) (count from to : ℕ) (e : Earlier) → Room starts ends → Covers h s tag starts ends count →
       let v = checkedBy count e in
       Covers h (insert s (h (part tag from to))) tag (writtenBy true v starts count from) (writtenBy true v ends count to) (countBy v count)
   unfolding checkedBy writtenBy countBy
@@ -129,7 +134,7 @@ module _ (h : List ℕ → ℕ) where
         Covers h (insert s (h (part tag from to))) tag (writtenBy true v starts count from) (writtenBy true v ends count to) (countBy v count)
     by true f =
         let few = ltb-true count capacity f in
-        let places = r .room refl in
+        let places = r .places in
         covers-more s tag starts ends count from to (omega arith) (omega arith) c
     by false f = covers-insert s (h (part tag from to)) tag starts ends count c
 
@@ -143,7 +148,7 @@ module _ (h : List ℕ → ℕ) where
       by false = refl
 
     -- After each check the crate's set still holds the hash of every recorded name.
-    pub crate-way-keeps : KeyRoom true starts ends →
+    pub crate-way-keeps : Room starts ends →
         let v = checkedOf tag true starts ends count from to in
         Kept h small (hashesAfter h small s tag starts ends count from to) tag (writtenBy true v starts count from) (writtenBy true v ends count to) (countBy v count)
     unfolding hashesAfter checkedOf
@@ -160,7 +165,7 @@ module _ (h : List ℕ → ℕ) where
           no-set small s tag starts ends count kept (leb-false small count e) (writtenBy true v starts count from) (writtenBy true v ends count to) (countBy v count)
 
   -- However many keys are checked one after another, each verdict of the crate's way is the plain one.
-  pub crate-run-agrees : (small : ℕ) (ks : List Key) (s : Hashes) (tag starts ends : List ℕ) (count : ℕ) → Kept h small s tag starts ends count → KeyRoom true starts ends → crateChecksOf h small ks s tag starts ends count ≡ checksOf ks tag starts ends count
+  pub crate-run-agrees : (small : ℕ) (ks : List Key) (s : Hashes) (tag starts ends : List ℕ) (count : ℕ) → Kept h small s tag starts ends count → Room starts ends → crateChecksOf h small ks s tag starts ends count ≡ checksOf ks tag starts ends count
   unfolding crateChecksOf checksOf checkedOf
   crate-run-agrees small [] s tag starts ends count kept r = refl
   crate-run-agrees small (k ∷ ks) s tag starts ends count kept r =
@@ -169,4 +174,4 @@ module _ (h : List ℕ → ℕ) where
       (ap (λ (vs : List Checked). v ∷ vs)
       (crate-run-agrees small ks (hashesAfter h small s tag starts ends count (k .from) (k .to)) tag (writtenBy true v starts count (k .from)) (writtenBy true v ends count (k .to)) (countBy v count)
       (crate-way-keeps small s tag starts ends count (k .from) (k .to) kept r)
-      (room-stays true v v starts ends count count (k .from) (k .to) r)))
+      (room-after v starts ends count (k .from) (k .to) r)))

@@ -5,13 +5,14 @@ use Prim.Native.Nat.{ℕ, _≤_, _<_}
 use mathlib.Core.Path.{_≡_}
 use mathlib.Core.Bool.{Bool, true, false, _||_}
 use mathlib.Core.List.{List, [], _∷_}
+use lib.ListN.{length}
 use lib.Dec.{eqb, ltb, leb}
 use Rattle.scan.specs.First.{firstTo, pick}
 use Rattle.scan.specs.Bytes.{part}
 use Rattle.tag_keys.specs.declared.Earlier.{Earlier}
 use Rattle.tag_keys.specs.declared.Earlier.the-variants.{Nothing}
 use Rattle.tag_keys.specs.declared.Checked.{Checked}
-use Rattle.tag_keys.specs.Keys.{nameAt, earlierOf, checkedBy, checkedOf, writtenBy, countBy}
+use Rattle.tag_keys.specs.Keys.{capacity, nameAt, earlierOf, checkedBy, checkedOf, writtenBy, countBy}
 
 -- `key_hashes`: no set until it is first needed, then a set of numbers, which says of each number whether it holds it
 pub data Hashes : Type 0 where
@@ -21,6 +22,11 @@ pub data Hashes : Type 0 where
 -- a set with one number more: `HashSet::insert`
 unfoldable pub insert : (ℕ → Bool) → ℕ → ℕ → Bool
 insert s x y = eqb x y || s y
+
+-- The crate's recorded keys are starts and ends, and no hash is kept beside them. Each list has a place for as many keys as may
+-- ever be recorded.
+pub record Room (starts ends : List ℕ) : Type 0 where
+  pub places : (capacity ≤ length starts) × (capacity ≤ length ends)
 
 -- the keys that are checked one after another
 pub record Key : Type 0 where

@@ -85,7 +85,7 @@ module _ {M : Type 1} (𝓤 : URA M) (H : Heap 𝓤) (A : Atoms 𝓤) (mem : Mem
   lines-answers κs a g y z = alone 𝓤 _ y z refl
 
   pub lines-page : Settled 𝓤 lines·page.ended (lines·page.clauses 𝓤 H A mem run)
-  lines-page κs a g y z = read-off 𝓤 (λ (x : PageLeft). (paged x, (tt, (x .batch .starts, (x .batch .ends, (tt, (tt, (tt, (x .batch .out, (x .text, tt))))))))))
+  lines-page κs a g y z = read-off 𝓤 (λ (x : PageLeft). (paged x, (tt, (x .batch .starts, (x .batch .ends, (x .batch .hashes, (tt, (x .batch .out, (x .text, tt)))))))))
 
   pub export-tags-mz-split : Settled 𝓤 export-tags·mz-split.ended (export-tags·mz-split.clauses 𝓤 H A mem run)
   export-tags-mz-split κs a g y z = alone 𝓤 _ y z refl
@@ -103,7 +103,7 @@ module _ {M : Type 1} (𝓤 : URA M) (H : Heap 𝓤) (A : Atoms 𝓤) (mem : Mem
   export-tags-mz-verdict κs a g y z = alone 𝓤 _ y z refl
 
   pub export-tags-mz-read-batch : Settled 𝓤 export-tags·mz-read-batch.ended (export-tags·mz-read-batch.clauses 𝓤 H A mem run)
-  export-tags-mz-read-batch κs a g y z = read-off 𝓤 (λ (x : Batch-reading). (x .answers, (tt, (x .starts, (x .ends, (x .state, (tt, (tt, (x .out, tt)))))))))
+  export-tags-mz-read-batch κs a g y z = read-off 𝓤 (λ (x : Batch-reading). (x .answers, (tt, (x .starts, (x .ends, (x .hashes, (x .state, (tt, (tt, (x .out, tt))))))))))
 
   pub export-memory-head-from : Settled 𝓤 export-memory·head-from.ended (export-memory·head-from.clauses 𝓤 H A mem run)
   export-memory-head-from κs a g y z = alone 𝓤 _ y z refl
@@ -151,4 +151,4 @@ module _ {M : Type 1} (𝓤 : URA M) (H : Heap 𝓤) (A : Atoms 𝓤) (mem : Mem
   export-nil-mz-as-bool κs a g y z = alone 𝓤 _ y z refl
 
   pub export-nil-mz-has-nil : Settled 𝓤 export-nil·mz-has-nil.ended (export-nil·mz-has-nil.clauses 𝓤 H A mem run)
-  export-nil-mz-has-nil κs a g y z = read-off 𝓤 (λ (x : NilEnd). (x .result, (tt, (tt, (tt, (tt, (x .starts, (x .ends, (x .state, (tt, (tt, tt)))))))))))
+  export-nil-mz-has-nil κs a g y z = read-off 𝓤 (λ (x : NilEnd). (x .result, (tt, (tt, (tt, (tt, (x .starts, (x .ends, (x .hashes, (x .state, (tt, (tt, tt))))))))))))

@@ -263,7 +263,7 @@ module _ {M : Type 1} (𝓤 : URA M) (H : Heap 𝓤) (A : Atoms 𝓤) (mem : Mem
   scope-nil-Nil-number κs a g y z = alone 𝓤 _ y z refl
 
   pub scope-nil-has-nil-in : Settled 𝓤 scope-nil·has-nil-in.ended (scope-nil·has-nil-in.clauses 𝓤 H A mem run)
-  scope-nil-has-nil-in κs a g y z = read-off 𝓤 (λ (x : HasNil). (leftIn x, (tt, (x .state .starts, (x .state .ends, (tt, (tt, (tt, (tt, tt)))))))))
+  scope-nil-has-nil-in κs a g y z = read-off 𝓤 (λ (x : HasNil). (leftIn x, (tt, (x .state .starts, (x .state .ends, (x .state .hashes, (tt, (tt, (tt, (tt, tt))))))))))
 
   pub scope-nil-has-nil : Settled 𝓤 scope-nil·has-nil.ended (scope-nil·has-nil.clauses 𝓤 H A mem run)
   scope-nil-has-nil κs a g y z = by-numbers 𝓤 numberedNil search-apart (λ (x : HasNil). (x, y .1)) (y .0) (z .0)

@@ -25,7 +25,8 @@ use Rattle.tag_step.specs.declared.Answer.{Answer}
 use Rattle.tag_step.specs.declared.Step.{Step}
 use Rattle.tag_step.proofs.Numbers.{numbers-apart, step-apart}
 use Rattle.tag_step.specs.Next.{Reading}
-use Rattle.tag_step.specs.Lent.{Taken, Took, Short, taken}
+use Rattle.tag_keys.specs.Sieve.{sieveLeft}
+use Rattle.tag_step.specs.Lent.{Taken, Took, Short, taken, keptIn}
 use Rattle.tag_step.specs.declared.Advance.{Advance}
 use Rattle.tag_step.specs.declared.Stepped.{Stepped}
 use Rattle.tag_step.specs.declared.Stepped.the-variants.{Made, LendMore}
@@ -59,14 +60,17 @@ use Rattle.name.proofs.check_named as name·check-named
 use Rattle.name.proofs.verdict_named as name·verdict-named
 use Rattle.name.proofs.verdict_default as name·verdict-default
 use Rattle.name.proofs.verdict_of as name·verdict-of
+use Rattle.tag_keys.proofs.hash_for as tag-keys·hash-for
+use Rattle.tag_keys.proofs.sieve_kept as tag-keys·sieve-kept
 use Rattle.tag_keys.proofs.keys_good as tag-keys·keys-good
 use Rattle.tag_keys.proofs.holds as tag-keys·holds
 use Rattle.tag_keys.proofs.check_for_duplicates as tag-keys·check-for-duplicates
+use Rattle.tag_keys.proofs.check_unsifted as tag-keys·check-unsifted
 use Rattle.tag_keys.proofs.record_key as tag-keys·record-key
 use Rattle.tag_step.proofs.good_in as tag-step·good-in
 use Rattle.tag_step.proofs.step_in as tag-step·step-in
 use Rattle.tag_step.proofs.step_unchecked as tag-step·step-unchecked
-use Rattle.tag_step.proofs.clear as tag-step·clear
+use Rattle.tag_step.proofs.clear_keys as tag-step·clear-keys
 use Rattle.tag_step.proofs.IterState.new as tag-step·IterState·new
 use Rattle.tag_step.proofs.IterState.with_checks as tag-step·IterState·with-checks
 use Rattle.tag_step.proofs.IterState.next as tag-step·IterState·next
@@ -92,13 +96,21 @@ abbrev outcome : Reading → Advance
 outcome x = record { answer = x .answer; place = x .place; count = x .keys .count }
 
 -- the same of a step that lacks a place: which of the two it is, and the tables
-abbrev stepRead : Taken → Stepped × List ℕ × List ℕ
-stepRead (Took x) = (Made (outcome x), x .keys .starts, x .keys .ends)
-stepRead (Short keys) = (LendMore, keys .starts, keys .ends)
+abbrev StepRead : Type 0
+StepRead = Stepped × List ℕ × List ℕ × List ℕ
 
-step-read : (r : Stepped) (starts ends : List ℕ) (count : ℕ) → stepRead (taken r starts ends count) ≡ (r, starts, ends)
-step-read (Made o) starts ends count = refl
-step-read LendMore starts ends count = refl
+abbrev stepRead : Taken → StepRead
+stepRead (Took x) = (Made (outcome x), x .keys .starts, x .keys .ends, x .keys .hashes)
+stepRead (Short keys) = (LendMore, keys .starts, keys .ends, keys .hashes)
+
+step-read : (r : Stepped) (starts ends hashes : List ℕ) (count : ℕ) → stepRead (taken r starts ends hashes count) ≡ (r, starts, ends, hashes)
+step-read (Made o) starts ends hashes count = refl
+step-read LendMore starts ends hashes count = refl
+
+-- two steps of which the contract states the same
+step-same : (r r' : Stepped) {starts ends hashes starts' ends' hashes' : List ℕ} (count : ℕ) {x : Taken} → taken r starts ends hashes count ≡ x → taken r' starts' ends' hashes' count ≡ x → _≡_ {A = StepRead} (r, starts, ends, hashes) (r', starts', ends', hashes')
+step-same r r' {starts} {ends} {hashes} {starts'} {ends'} {hashes'} count p q =
+    sym (step-read r starts ends hashes count) ∙ ap stepRead (p ∙ sym q) ∙ step-read r' starts' ends' hashes' count
 
 -- the five numbers of an answer, read off the list that the contract states
 abbrev fiveOfList : List ℕ → Five
@@ -189,6 +201,12 @@ module _ {M : Type 1} (𝓤 : URA M) (H : Heap 𝓤) (A : Atoms 𝓤) (mem : Mem
   pub name-verdict-of : Settled 𝓤 name·verdict-of.ended (name·verdict-of.clauses 𝓤 H A mem run)
   name-verdict-of κs a g y z = alone 𝓤 _ y z refl
 
+  pub tag-keys-hash-for : Settled 𝓤 tag-keys·hash-for.ended (tag-keys·hash-for.clauses 𝓤 H A mem run)
+  tag-keys-hash-for κs a g y z = alone 𝓤 _ y z refl
+
+  pub tag-keys-sieve-kept : Settled 𝓤 tag-keys·sieve-kept.ended (tag-keys·sieve-kept.clauses 𝓤 H A mem run)
+  tag-keys-sieve-kept κs a g y z = follows 𝓤 (λ p q. together y z refl (together (y .1) (z .1) (p ∙ sym q) refl))
+
   pub tag-keys-keys-good : Settled 𝓤 tag-keys·keys-good.ended (tag-keys·keys-good.clauses 𝓤 H A mem run)
   tag-keys-keys-good κs a g y z = alone 𝓤 _ y z refl
 
@@ -198,21 +216,28 @@ module _ {M : Type 1} (𝓤 : URA M) (H : Heap 𝓤) (A : Atoms 𝓤) (mem : Mem
   pub tag-keys-check-for-duplicates : Settled 𝓤 tag-keys·check-for-duplicates.ended (tag-keys·check-for-duplicates.clauses 𝓤 H A mem run)
   tag-keys-check-for-duplicates κs a g y z = by-numbers 𝓤 checkedNumbers checked-apart (λ (x : Checked). (x, y .1)) (y .0) (z .0)
 
+  pub tag-keys-check-unsifted : Settled 𝓤 tag-keys·check-unsifted.ended (tag-keys·check-unsifted.clauses 𝓤 H A mem run)
+  tag-keys-check-unsifted κs a g y z = by-numbers 𝓤 checkedNumbers checked-apart (λ (x : Checked). (x, y .1)) (y .0) (z .0)
+
   pub tag-keys-record-key : Settled 𝓤 tag-keys·record-key.ended (tag-keys·record-key.clauses 𝓤 H A mem run)
-  tag-keys-record-key κs a g y z = follows 𝓤 (λ p q. together y z (p .0 ∙ sym (q .0)) (together (y .1) (z .1) (p .1 ∙ picks-alike _ _ _ _ (p .0 ∙ sym (q .0)) ∙ sym (q .1)) (together (y .1 .1) (z .1 .1) (p .2 ∙ picks-alike _ _ _ _ (p .0 ∙ sym (q .0)) ∙ sym (q .2)) refl)))
+  tag-keys-record-key κs a g y z = follows 𝓤 (λ p q. together y z (p .0 ∙ sym (q .0)) (together (y .1) (z .1) (p .1 ∙ picks-alike _ _ _ _ (p .0 ∙ sym (q .0)) ∙ sym (q .1)) (together (y .1 .1) (z .1 .1) (p .2 ∙ picks-alike _ _ _ _ (p .0 ∙ sym (q .0)) ∙ sym (q .2)) (together (y .1 .1 .1) (z .1 .1 .1) (p .3 ∙ picks-alike _ _ _ _ (p .0 ∙ sym (q .0)) ∙ sym (q .3)) (together (y .1 .1 .1 .1) (z .1 .1 .1 .1) (p .4 ∙ picks-alike _ _ _ _ (p .0 ∙ sym (q .0)) ∙ sym (q .4)) refl)))))
 
   pub tag-step-good-in : Settled 𝓤 tag-step·good-in.ended (tag-step·good-in.clauses 𝓤 H A mem run)
   tag-step-good-in κs a g y z = alone 𝓤 _ y z refl
 
   pub tag-step-step-in : Settled 𝓤 tag-step·step-in.ended (tag-step·step-in.clauses 𝓤 H A mem run)
-  tag-step-step-in κs a g y z = follows 𝓤 (λ p q. ap (λ (x : Stepped × List ℕ × List ℕ). (x .0, (tt, (x .1, (x .2, (tt, (tt, (tt, (tt, tt)))))))))
-      (sym (step-read (y .0) (y .1 .1 .0) (y .1 .1 .1 .0) _) ∙ ap stepRead (p ∙ sym q) ∙ step-read (z .0) (z .1 .1 .0) (z .1 .1 .1 .0) _))
+  tag-step-step-in κs a g y z = follows 𝓤 (λ p q. together y z (ap (λ (x : StepRead). x .0) (step-same (y .0) (z .0) (a .1 .1 .1 .1 .1 .0 .count) (p .0) (q .0)))
+      (together (y .1) (z .1) refl
+      (together (y .1 .1) (z .1 .1) (ap (λ (x : StepRead). x .1) (step-same (y .0) (z .0) (a .1 .1 .1 .1 .1 .0 .count) (p .0) (q .0)))
+      (together (y .1 .1 .1) (z .1 .1 .1) (ap (λ (x : StepRead). x .2) (step-same (y .0) (z .0) (a .1 .1 .1 .1 .1 .0 .count) (p .0) (q .0)))
+      (together (y .1 .1 .1 .1) (z .1 .1 .1 .1) (ap (λ (x : StepRead). x .3) (step-same (y .0) (z .0) (a .1 .1 .1 .1 .1 .0 .count) (p .0) (q .0)))
+      (together (y .1 .1 .1 .1 .1) (z .1 .1 .1 .1 .1) (p .1 ∙ ap (λ (x : StepRead). sieveLeft (a .1 .1 .1 .1 .1 .0 .checks) (now (a .1 .1 .1 .1 .0)) (x .3) (keptIn (x .0) (a .1 .1 .1 .1 .1 .0 .count))) (step-same (y .0) (z .0) (a .1 .1 .1 .1 .1 .0 .count) (p .0) (q .0)) ∙ sym (q .1)) refl))))))
 
   pub tag-step-step-unchecked : Settled 𝓤 tag-step·step-unchecked.ended (tag-step·step-unchecked.clauses 𝓤 H A mem run)
   tag-step-step-unchecked κs a g y z = alone 𝓤 _ y z refl
 
-  pub tag-step-clear : Settled 𝓤 tag-step·clear.ended (tag-step·clear.clauses 𝓤 H A mem run)
-  tag-step-clear κs a g y z = follows 𝓤 (λ p q. together y z refl (together (y .1) (z .1) (p ∙ sym q) refl))
+  pub tag-step-clear-keys : Settled 𝓤 tag-step·clear-keys.ended (tag-step·clear-keys.clauses 𝓤 H A mem run)
+  tag-step-clear-keys κs a g y z = follows 𝓤 (λ p q. together y z refl (together (y .1) (z .1) (p .0 ∙ sym (q .0)) (together (y .1 .1) (z .1 .1) (p .1 ∙ sym (q .1)) (together (y .1 .1 .1) (z .1 .1 .1) (p .2 ∙ sym (q .2)) refl))))
 
   pub tag-step-IterState-new : Settled 𝓤 tag-step·IterState·new.ended (tag-step·IterState·new.clauses 𝓤 H A mem run)
   tag-step-IterState-new κs a g y z = alone 𝓤 _ y z refl
@@ -242,7 +267,7 @@ module _ {M : Type 1} (𝓤 : URA M) (H : Heap 𝓤) (A : Atoms 𝓤) (mem : Mem
   tag-batch-numbers κs a g y z = follows 𝓤 (λ p q. together y z (ap fiveOfList (p ∙ sym q)) refl)
 
   pub tag-batch-read-batch : Settled 𝓤 tag-batch·read-batch.ended (tag-batch·read-batch.clauses 𝓤 H A mem run)
-  tag-batch-read-batch κs a g y z = read-off 𝓤 (λ (x : Batched). (x .batch, (tt, (x .starts, (x .ends, (tt, (tt, (tt, (tt, (x .out, tt))))))))))
+  tag-batch-read-batch κs a g y z = read-off 𝓤 (λ (x : Batched). (x .batch, (tt, (x .starts, (x .ends, (x .hashes, (tt, (x .out, tt))))))))
 
   pub tag-carried-Attributes-new : Settled 𝓤 tag-carried·Attributes·new.ended (tag-carried·Attributes·new.clauses 𝓤 H A mem run)
   tag-carried-Attributes-new κs a g y z = alone 𝓤 _ y z refl

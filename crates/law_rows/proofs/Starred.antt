@@ -4,7 +4,8 @@ use mathlib.Core.List.{map}
 use Rattle.scan.specs.First.{firstOf, firstTo, firstFrom}
 use Rattle.scan.specs.Bytes.{isSpace, notSpace, endsKey, isByte, part, inside, sameBytes, bytesFrom, bytes}
 use Rattle.scan.specs.Lists.{over}
-use Rattle.tag_keys.specs.Keys.{keyGood, keyBad, countGood, tableGood, nameAt, sameKey, oldestOf, earlierOf, checkedBy, checkedOf, writtenBy, countBy}
+use Rattle.tag_keys.specs.Hash.{timesPrime, hashFrom, hashOf}
+use Rattle.tag_keys.specs.Keys.{keyGood, hashIs, keyBad, countGood, tableGood, nameAt, sameKey, oldestOf, earlierOf, checkedBy, checkedOf, writtenBy, countBy}
 use Rattle.tag_step.specs.Read.{isAt, isQuote, skipTo, skipOf, recoverOf, keyEq, keyTo, keyFrom, keyAt, quoted, closedOf, quotedTo, quotedOf, unquotedTo, otherOf, valueBy, valueFrom, valueAt}
 use Rattle.tag_step.specs.Next.{checkOf, keptBy, placeAt, bareBy, bareTo, bareOf, valuedBy, valuedTo, valuedOf, readKey, readAt, stepFrom, stepOf, placeGood, keysOf, stateGood, noKeys, badReading, leaves, nextOf, opened}
 use Rattle.tag_step.specs.Run.{isEnd, consUnless, runOf, answersOf}
@@ -26,5 +27,5 @@ use Rattle.law_rows.specs.Seen.{handedBack}
 use Rattle.law_rows.specs.Rows.{callAll, lookedUp, shownBy, computed, computedOf, starredRows}
 
 pub starred : map computedOf starredRows ≡ starredRows
-unfolding firstOf firstTo firstFrom isSpace notSpace endsKey isByte part inside sameBytes bytesFrom bytes keyGood keyBad countGood tableGood nameAt sameKey oldestOf earlierOf checkedBy checkedOf writtenBy countBy isAt isQuote skipTo skipOf recoverOf keyEq keyTo keyFrom keyAt quoted closedOf quotedTo quotedOf unquotedTo otherOf valueBy valueFrom valueAt checkOf keptBy placeAt bareBy bareTo bareOf valuedBy valuedTo valuedOf readKey readAt stepFrom stepOf placeGood keysOf stateGood noKeys badReading leaves nextOf opened isEnd consUnless runOf answersOf keyPart valuePart xmlPrefix xmlnsPrefix xmlUri xmlnsUri isXml isXmlns isXmlUri isXmlnsUri reservedBind opening isNamed declaresOf declaredPrefix colonAt hasColon prefixOf allBelow allZero over cut builtIn textOf levelBefore isRecord opensBuiltIn isChain isRising isWithin isClear isTable validOf freshOf changeNumbers boundOf refusalOf appendOf keptAt keptOf droppedOf levelOf namedOf judgeOf settleOf declareOf popOf declarationOf declarationThen declarationsOf tagAnswers thenOf declareAll raisedOf pushOf lastBelow prefixIn hasPrefix isDefault valueOr explicitOf defaultOf amongOf resolvePrefixOf resolveOf uriPart prefixPart callOf handedBack callAll lookedUp shownBy computed computedOf
+unfolding firstOf firstTo firstFrom isSpace notSpace endsKey isByte part inside sameBytes bytesFrom bytes timesPrime hashFrom hashOf hashIs keyGood keyBad countGood tableGood nameAt sameKey oldestOf earlierOf checkedBy checkedOf writtenBy countBy isAt isQuote skipTo skipOf recoverOf keyEq keyTo keyFrom keyAt quoted closedOf quotedTo quotedOf unquotedTo otherOf valueBy valueFrom valueAt checkOf keptBy placeAt bareBy bareTo bareOf valuedBy valuedTo valuedOf readKey readAt stepFrom stepOf placeGood keysOf stateGood noKeys badReading leaves nextOf opened isEnd consUnless runOf answersOf keyPart valuePart xmlPrefix xmlnsPrefix xmlUri xmlnsUri isXml isXmlns isXmlUri isXmlnsUri reservedBind opening isNamed declaresOf declaredPrefix colonAt hasColon prefixOf allBelow allZero over cut builtIn textOf levelBefore isRecord opensBuiltIn isChain isRising isWithin isClear isTable validOf freshOf changeNumbers boundOf refusalOf appendOf keptAt keptOf droppedOf levelOf namedOf judgeOf settleOf declareOf popOf declarationOf declarationThen declarationsOf tagAnswers thenOf declareAll raisedOf pushOf lastBelow prefixIn hasPrefix isDefault valueOr explicitOf defaultOf amongOf resolvePrefixOf resolveOf uriPart prefixPart callOf handedBack callAll lookedUp shownBy computed computedOf
 starred = refl

@@ -48,7 +48,7 @@ module _ (s : List ℕ) (o : ℕ) (inside : o < length s) (equals : getD s o 0 �
 pub dead-quotes : DeadQuotes
 unfolding DeadQuotes stateGood
 dead-quotes s st good o e =
-    let tables = tableGood (length s) (st .starts) (st .ends) (st .count) in
+    let tables = tableGood s (st .starts) (st .ends) (st .hashes) (st .count) in
     let stands : placeGood s (SkipEqValue o) ≡ true = subst (λ (p : Place). placeGood s p ≡ true) e (both tables (placeGood s (st .place)) good .1) in
     let at = skips-eq s st o stands in
     plain-skip s o (at .0) (at .1)

@@ -78,7 +78,7 @@ module _ (s : List ℕ) (st : IterState) where
   Leaves x = RowLeft s st (x .answer) (leaves st x .state)
 
   -- the state after a fresh key
-  fresh : (a : Answer) (p : Place) (key : Span) (n : ℕ) → Fresh n ≡ checkOf s checks (keysOf st) key → leaves st (record { answer = a; place = p; keys = keptBy checks (keysOf st) key (Fresh n) }) .state ≡ movedWith p key st
+  fresh : (a : Answer) (p : Place) (key : Span) (n : ℕ) → Fresh n ≡ checkOf s checks (keysOf st) key → leaves st (record { answer = a; place = p; keys = keptBy s checks (keysOf st) key (Fresh n) }) .state ≡ movedWith s p key st
   unfolding leaves keptBy writtenBy countBy keysOf
   fresh a p key n e = rw (fresh-count s checks (keysOf st) key n e)
 
@@ -97,7 +97,7 @@ module _ (s : List ℕ) (st : IterState) where
 
       -- a row for a value of a fresh key
       abbrev Value : ℕ → Found → Type 0
-      Value n x = Leaves (reading x (keptBy checks (keysOf st) key (Fresh n)))
+      Value n x = Leaves (reading x (keptBy s checks (keysOf st) key (Fresh n)))
 
       quoted-leaves : (n q : ℕ) (value : Span) → Fresh n ≡ checkOf s checks (keysOf st) key → Value n (closedOf q key value)
       unfolding closedOf quoted RowLeft

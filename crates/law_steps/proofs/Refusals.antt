@@ -15,8 +15,9 @@ use Rattle.tag_keys.specs.declared.Earlier.{Earlier}
 use Rattle.tag_keys.specs.declared.Earlier.the-variants.{At, Nothing}
 use Rattle.tag_keys.specs.declared.Checked.{Checked}
 use Rattle.tag_keys.specs.declared.Checked.the-variants.{Fresh, Same, Full}
-use Rattle.tag_keys.specs.Keys.{capacity, keyGood, keyBad, tableGood, earlierOf, checkedBy, checkedOf}
-use Rattle.tag_keys.proofs.Laws.{table-in, table-all, earlier-none, earlier-absent, checked-full}
+use Rattle.tag_keys.specs.Hash.{hashOf}
+use Rattle.tag_keys.specs.Keys.{capacity, nameAt, keyGood, hashIs, keyBad, tableGood, earlierOf, checkedBy, checkedOf}
+use Rattle.tag_keys.proofs.Laws.{facts-hold, table-in, table-all, earlier-none, earlier-absent, checked-full}
 use Rattle.tag_step.specs.declared.Span.{Span}
 use Rattle.tag_step.specs.declared.Place.{Place}
 use Rattle.tag_step.specs.declared.Place.the-variants.{Done, Next, SkipValue, SkipEqValue}
@@ -31,13 +32,13 @@ use Rattle.tag_step.specs.Read.{isAt, recoverOf, quoted, closedOf, valueAt}
 use Rattle.tag_step.specs.Next.{Reading, checkOf, bareBy, bareTo, bareOf, valuedBy, valuedTo, valuedOf, stepFrom, stepOf, placeGood, keysOf, stateGood, badReading, leaves, nextOf}
 use Rattle.tag_step.proofs.Whole.{starts-in, step-bare, step-valued, next-bad, next-steps}
 use Rattle.tag_step.proofs.Ways.{value-ways, step-ways}
-use Rattle.law_steps.specs.Steps.{FullTables, Broken, emptyKey, outsideKey, manyKeys, outsideSkip, outsideSkipEq, noEq, SevenExactly, Due, valued, bare, NoRoom, SixExactly}
+use Rattle.law_steps.specs.Steps.{FullTables, Broken, emptyKey, outsideKey, wrongHash, manyKeys, outsideSkip, outsideSkipEq, noEq, SevenExactly, Due, valued, bare, NoRoom, SixExactly}
 
 -- Refusal 7.
 
 module _ (s : List ℕ) (st : IterState) where
   abbrev tables : Bool
-  tables = tableGood (length s) (st .starts) (st .ends) (st .count)
+  tables = tableGood s (st .starts) (st .ends) (st .hashes) (st .count)
 
   skips-in : (o : ℕ) → placeGood s (SkipValue o) ≡ true → o < length s
   unfolding placeGood
@@ -54,21 +55,37 @@ module _ (s : List ℕ) (st : IterState) where
   unfolding stateGood
   good-whole g = by (both tables (placeGood s (st .place)) g) where
     by : (tables ≡ true) × (placeGood s (st .place) ≡ true) → Broken s st → ⊥
-    by b (emptyKey k lt h) = omega (arith, table-in (length s) (st .starts) (st .ends) (st .count) (b .0) .inside k lt .0)
-    by b (outsideKey k lt h) = omega (arith, table-in (length s) (st .starts) (st .ends) (st .count) (b .0) .inside k lt .1)
-    by b (manyKeys h) = omega (arith, table-in (length s) (st .starts) (st .ends) (st .count) (b .0) .few)
+    by b (emptyKey k lt h) = omega (arith, table-in s (st .starts) (st .ends) (st .hashes) (st .count) (b .0) .inside k lt .0)
+    by b (outsideKey k lt h) = omega (arith, table-in s (st .starts) (st .ends) (st .hashes) (st .count) (b .0) .inside k lt .1)
+    by b (wrongHash k lt n) =
+        let own = table-in s (st .starts) (st .ends) (st .hashes) (st .count) (b .0) .kept k lt in
+        n cc
+    by b (manyKeys h) = omega (arith, table-in s (st .starts) (st .ends) (st .hashes) (st .count) (b .0) .few)
     by b (outsideSkip o e h) = omega (arith, skips-in o (subst (λ (p : Place). placeGood s p ≡ true) e (b .1)))
     by b (outsideSkipEq o e h) = omega (arith, skips-eq o (subst (λ (p : Place). placeGood s p ≡ true) e (b .1)) .0)
     by b (noEq o e n) = n (skips-eq o (subst (λ (p : Place). placeGood s p ≡ true) e (b .1)) .1)
 
-  -- a recorded key that tests bad is empty, or not inside the tag
-  key-broken : (k : ℕ) → k < st .count → keyBad (length s) (st .starts) (st .ends) k ≡ true → Broken s st
-  unfolding keyBad keyGood
-  key-broken k lt = by (ltb (getD (st .starts) k 0) (getD (st .ends) k 0)) (leb (getD (st .ends) k 0) (length s)) refl refl where
-    by : (a b : Bool) → ltb (getD (st .starts) k 0) (getD (st .ends) k 0) ≡ a → leb (getD (st .ends) k 0) (length s) ≡ b → not (a && b) ≡ true → Broken s st
-    by true true x y z = absurd (false≢true z)
-    by true false x y z = outsideKey k lt (leb-false (getD (st .ends) k 0) (length s) y)
-    by false b x y z = emptyKey k lt (ltb-false (getD (st .starts) k 0) (getD (st .ends) k 0) x)
+  -- a recorded key that tests bad is empty, or not inside the tag, or its kept hash is not its own
+  key-broken : (k : ℕ) → k < st .count → keyBad s (st .starts) (st .ends) (st .hashes) k ≡ true → Broken s st
+  unfolding keyBad keyGood hashIs
+  key-broken k lt = by (ltb start end) (leb end (length s)) (eqb hash own) refl refl refl where
+    start : ℕ
+    start = getD (st .starts) k 0
+
+    end : ℕ
+    end = getD (st .ends) k 0
+
+    hash : ℕ
+    hash = getD (st .hashes) k 0
+
+    own : ℕ
+    own = hashOf (nameAt s (st .starts) (st .ends) k)
+
+    by : (a b d : Bool) → ltb start end ≡ a → leb end (length s) ≡ b → eqb hash own ≡ d → not ((a && b) && d) ≡ true → Broken s st
+    by true true true x y v z = absurd (false≢true z)
+    by true true false x y v z = wrongHash k lt (eqb-false hash own v)
+    by true false d x y v z = outsideKey k lt (leb-false end (length s) y)
+    by false b d x y v z = emptyKey k lt (ltb-false start end x)
 
   place-broken : (p : Place) → st .place ≡ p → placeGood s p ≡ false → Broken s st
   unfolding placeGood isAt
@@ -85,18 +102,19 @@ module _ (s : List ℕ) (st : IterState) where
     tables-broken : tables ≡ false → Broken s st
     tables-broken bad = by (leb (st .count) capacity) refl where
       n : ℕ
-      n = firstTo (keyBad (length s) (st .starts) (st .ends)) 0 (st .count)
+      n = firstTo (keyBad s (st .starts) (st .ends) (st .hashes)) 0 (st .count)
 
       first-bad : st .count ≤ capacity → (t : Bool) → ltb n (st .count) ≡ t → Broken s st
       first-bad few true h =
           let lt = ltb-true n (st .count) h in
-          key-broken n lt (to-first (keyBad (length s) (st .starts) (st .ends)) 0 (st .count) (omega arith) .found lt)
+          key-broken n lt (to-first (keyBad s (st .starts) (st .ends) (st .hashes)) 0 (st .count) (omega arith) .found lt)
       first-bad few false h =
           let le = ltb-false n (st .count) h in
-          let p = keyBad (length s) (st .starts) (st .ends) in
+          let p = keyBad s (st .starts) (st .ends) (st .hashes) in
           let past = to-past p (st .count) (st .count) (omega arith) in
           let same : n ≡ firstTo p (st .count) (st .count) = omega (arith, to-first p 0 (st .count) (omega arith) .inside) in
-          absurd (true≢false (table-all (length s) (st .starts) (st .ends) (st .count) few (omega arith) (omega arith) (st .count) same (omega arith) ∙ bad))
+          let held = facts-hold (st .starts) (st .ends) (st .hashes) (st .count) (omega (arith, full .starts), omega (arith, full .ends), omega (arith, full .hashes)) in
+          absurd (true≢false (table-all s (st .starts) (st .ends) (st .hashes) (st .count) few held (st .count) same (omega arith) ∙ bad))
 
       by : (t : Bool) → leb (st .count) capacity ≡ t → Broken s st
       by true h = first-bad (leb-true (st .count) capacity h) (ltb n (st .count)) refl
@@ -223,7 +241,7 @@ module _ (s : List ℕ) (st : IterState) (this : ℕ) (full : FullTables st) whe
   six-means e =
       let g = six-good e in
       let r : Refused s st this = subst (May s st) e (good-may s st g) in
-      let few = table-in (length s) (st .starts) (st .ends) (st .count) (both (tables s st) (placeGood s (st .place)) g .0) .few in
+      let few = table-in s (st .starts) (st .ends) (st .hashes) (st .count) (both (tables s st) (placeGood s (st .place)) g .0) .few in
       let most : capacity ≤ st .count = r .full .full in
       record {
         whole = good-whole s st g;

@@ -53,7 +53,7 @@ module _ (s : List ℕ) (st : IterState) where
 
   done-good : stateGood s st ≡ true → stateGood s (movedTo Done st) ≡ true
   unfolding stateGood placeGood
-  done-good g = rw (both (tableGood (length s) (st .starts) (st .ends) (st .count)) (placeGood s (st .place)) g .0)
+  done-good g = rw (both (tableGood s (st .starts) (st .ends) (st .hashes) (st .count)) (placeGood s (st .place)) g .0)
 
   done-ended : recoverOf s (movedTo Done st .place) ≡ Ended
   unfolding recoverOf

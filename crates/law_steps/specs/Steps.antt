@@ -8,6 +8,7 @@ use lib.ListN.{length, getD, set, replicate}
 use lib.Dec.{ltb}
 use Rattle.scan.specs.First.{pick}
 use Rattle.scan.specs.Bytes.{isSpace, part}
+use Rattle.tag_keys.specs.Hash.{hashOf}
 use Rattle.tag_keys.specs.Keys.{capacity, nameAt}
 use Rattle.tag_step.specs.declared.Span.{Span}
 use Rattle.tag_step.specs.declared.Place.{Place}
@@ -24,15 +25,17 @@ use Rattle.tag_step.specs.Next.{nextOf}
 pub record FullTables (st : IterState) : Type 0 where
   pub starts : length (st .starts) ≡ capacity
   pub ends : length (st .ends) ≡ capacity
+  pub hashes : length (st .hashes) ≡ capacity
 
 -- Refusal 7.
 
--- "a recorded key that is empty or not inside the tag, more than 256 keys, a skip place not inside the tag, or a
--- skip-from-`=` place whose byte is not `=`": a case for each clause. Nothing is asked of the mode, of the checks, or of
--- any other place, so 7 comes with checks on or off, and also when done.
+-- "a recorded key that is empty or not inside the tag", more keys than the capacity, "a skip place not inside the tag, or a
+-- skip-from-`=` place whose byte is not `=`", and "a kept hash that is not its key's": a case for each clause. Nothing is
+-- asked of the mode, of the checks, or of any other place, so 7 comes with checks on or off, and also when done.
 pub data Broken (s : List ℕ) (st : IterState) : Type 0 where
   emptyKey : (k : ℕ) → k < st .count → getD (st .ends) k 0 ≤ getD (st .starts) k 0 → Broken s st
   outsideKey : (k : ℕ) → k < st .count → length s < getD (st .ends) k 0 → Broken s st
+  wrongHash : (k : ℕ) → k < st .count → (getD (st .hashes) k 0 ≡ hashOf (nameAt s (st .starts) (st .ends) k) → ⊥) → Broken s st
   manyKeys : capacity < st .count → Broken s st
   outsideSkip : (o : ℕ) → st .place ≡ SkipValue o → length s ≤ o → Broken s st
   outsideSkipEq : (o : ℕ) → st .place ≡ SkipEqValue o → length s ≤ o → Broken s st
@@ -66,7 +69,7 @@ pub data Due (s : List ℕ) (st : IterState) (key : Span) : Type 0 where
 
 -- Refusal 6.
 
--- 7 does not come; "checks are on, a key is due to be recorded, 256 keys already are and it equals none of them"; it
+-- 7 does not come; "checks are on, a key is due to be recorded", as many as the capacity "already are and it equals none of them"; it
 -- starts at `this`.
 pub record NoRoom (s : List ℕ) (st : IterState) (this : ℕ) : Type 0 where
   pub whole : Broken s st → ⊥
@@ -94,19 +97,21 @@ movedTo place st =
       «check_duplicates» = st .«check_duplicates»;
       starts = st .starts;
       ends = st .ends;
+      hashes = st .hashes;
       count = st .count;
     }
 
--- the same with a key recorded, which applies while checks are on: one place of each table is written, the first unused
--- one, and the others keep their content
-abbrev pub movedWith : Place → Span → IterState → IterState
-movedWith place key st =
+-- the same with a key recorded, and the hash of its bytes, which applies while checks are on: one place of each table is
+-- written, the first unused one, and the others keep their content
+abbrev pub movedWith : List ℕ → Place → Span → IterState → IterState
+movedWith s place key st =
     record {
       place = place;
       html = st .html;
       «check_duplicates» = st .«check_duplicates»;
       starts = pick (st .«check_duplicates») (set (st .starts) (st .count) (key .start)) (st .starts);
       ends = pick (st .«check_duplicates») (set (st .ends) (st .count) (key .end)) (st .ends);
+      hashes = pick (st .«check_duplicates») (set (st .hashes) (st .count) (hashOf (part s (key .start) (key .end)))) (st .hashes);
       count = pick (st .«check_duplicates») (st .count + 1) (st .count);
     }
 
@@ -119,6 +124,7 @@ emptied st =
       «check_duplicates» = st .«check_duplicates»;
       starts = replicate capacity 0;
       ends = replicate capacity 0;
+      hashes = replicate capacity 0;
       count = 0;
     }
 
@@ -147,14 +153,14 @@ pub record EndLeaves (s : List ℕ) (st left : IterState) : Type 0 where
 -- The key that was read is recorded.
 pub record Records (s : List ℕ) (st left : IterState) (place : Place) (key : Span) : Type 0 where
   pub due : Due s st key
-  pub leaves : left ≡ movedWith place key st
+  pub leaves : left ≡ movedWith s place key st
 
 -- the same where the answer does not name it, which has an `=`
 pub record RecordsIts (s : List ℕ) (st left : IterState) (place : Place) : Type 0 where
   pub key : Span
   pub eq : ℕ
   pub due : ValuedKey s st key eq
-  pub leaves : left ≡ movedWith place key st
+  pub leaves : left ≡ movedWith s place key st
 
 -- 5: "skip from the `=`; for a bare HTML key the next place, or done. Not recorded again"
 pub data RepeatLeaves (s : List ℕ) (st left : IterState) (this : ℕ) : Type 0 where
@@ -168,7 +174,7 @@ RowLeft s st End left = EndLeaves s st left
 RowLeft s st (DoubleQ key value) left = Records s st left (Next (value .end + 1)) key
 RowLeft s st (SingleQ key value) left = Records s st left (Next (value .end + 1)) key
 RowLeft s st (Unquoted key value) left = Records s st left (Next (value .end)) key
-RowLeft s st (Empty key) left = (at : ℕ) × (BareKey s st key at) × (left ≡ movedWith (atOrDone s at) key st)
+RowLeft s st (Empty key) left = (at : ℕ) × (BareKey s st key at) × (left ≡ movedWith s (atOrDone s at) key st)
 RowLeft s st (ExpectedEq pos) left = left ≡ movedTo (atOrDone s pos) st
 RowLeft s st (ExpectedValue len) left = (len ≡ length s) × RecordsIts s st left Done
 RowLeft s st (UnquotedValue pos) left = RecordsIts s st left (SkipValue pos)
@@ -177,7 +183,7 @@ RowLeft s st (Duplicated this earlier) left = RepeatLeaves s st left this
 RowLeft s st (KeyTableFull this) left = left ≡ movedTo Done st
 RowLeft s st BadState left = left ≡ emptied st
 
--- Every step leaves what its answer's row says, every place of both tables, for every tag and every state.
+-- Every step leaves what its answer's row says, every place of the three tables, for every tag and every state.
 unfoldable pub LeavesExact : Type 0
 LeavesExact = (s : List ℕ) (st : IterState) → RowLeft s st (nextOf s st .answer) (nextOf s st .state)
 

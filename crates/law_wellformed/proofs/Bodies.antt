@@ -10,11 +10,12 @@ use native.Mathlib.Omega.{arith}
 use lib.ListN.{length, getD, set, drop, length-append, length-drop, length-replicate}
 use lib.Seq.{drop-append-seam, getD-set-same, getD-set-other}
 use Rattle.scan.specs.First.{firstFrom}
-use Rattle.scan.specs.Bytes.{isSpace, notSpace}
+use Rattle.scan.specs.Bytes.{isSpace, notSpace, part}
 use Rattle.scan.proofs.Laws.{past, skip}
 use Rattle.tag_keys.specs.declared.Checked.the-variants.{Fresh}
+use Rattle.tag_keys.specs.Hash.{hashOf}
 use Rattle.tag_keys.specs.Keys.{capacity, KeysIn, KeyRoom, nameAt, countBy}
-use Rattle.tag_keys.proofs.Laws.{in-table, keys-none, earlier-none, checked-off, checked-fresh, written-on, room-stays, keys-after}
+use Rattle.tag_keys.proofs.Laws.{in-table, keys-none, earlier-none, checked-off, checked-fresh, written-on, room-stays, keys-held, room-holds}
 use Rattle.tag_step.specs.declared.Place.the-variants.{Done, Next}
 use Rattle.tag_step.specs.declared.Answer.{Answer}
 use Rattle.tag_step.specs.declared.Answer.the-variants.{End}
@@ -50,19 +51,19 @@ only-space s o w here h le =
 
 -- Before the attributes `more` are read: the table is good, has room for their names, and holds none of them.
 pub record Awaits (s : List ℕ) (checks : Bool) (keys : Keys) (more : List Attribute) : Type 0 where
-  pub inside : KeysIn (keys .starts) (keys .ends) (keys .count) (length s)
-  pub room : KeyRoom checks (keys .starts) (keys .ends)
+  pub inside : KeysIn (keys .starts) (keys .ends) (keys .hashes) (keys .count) s
+  pub room : KeyRoom checks (keys .starts) (keys .ends) (keys .hashes)
   pub few : checks ≡ true → keys .count + length more ≤ capacity
   pub fresh : checks ≡ true → (k : ℕ) → k < keys .count → Absent (nameAt s (keys .starts) (keys .ends) k) more
 
 module _ (s : List ℕ) (html checks : Bool) where
   abbrev stateAt : ℕ → Keys → IterState
-  stateAt o keys = record { place = Next o; html = html; «check_duplicates» = checks; starts = keys .starts; ends = keys .ends; count = keys .count }
+  stateAt o keys = record { place = Next o; html = html; «check_duplicates» = checks; starts = keys .starts; ends = keys .ends; hashes = keys .hashes; count = keys .count }
 
   -- from a good state reading goes on at its place
-  next-reads : (o : ℕ) (keys : Keys) → KeysIn (keys .starts) (keys .ends) (keys .count) (length s) → o ≤ length s → nextOf s (stateAt o keys) ≡ leaves (stateAt o keys) (readAt s html checks keys o)
+  next-reads : (o : ℕ) (keys : Keys) → KeysIn (keys .starts) (keys .ends) (keys .hashes) (keys .count) s → o ≤ length s → nextOf s (stateAt o keys) ≡ leaves (stateAt o keys) (readAt s html checks keys o)
   unfolding nextOf stateGood placeGood stepOf keysOf stepFrom
-  next-reads o keys i h = rw (in-table (length s) (keys .starts) (keys .ends) (keys .count) i, sym (next-from s o h))
+  next-reads o keys i h = rw (in-table s (keys .starts) (keys .ends) (keys .hashes) (keys .count) i, sym (next-from s o h))
 
   module _ (o : ℕ) (keys : Keys) (a : Attribute) (more : List Attribute) (rest : List ℕ) (here : drop o s ≡ attributeThen a rest) (fine : Quoted a) (ready : Awaits s checks keys (a ∷ more)) where
     abbrev key : Span
@@ -85,7 +86,7 @@ module _ (s : List ℕ) (html checks : Bool) where
 
     -- the recorded keys after this one
     abbrev kept : Keys
-    kept = keptBy checks keys key (checkOf s checks keys key)
+    kept = keptBy s checks keys key (checkOf s checks keys key)
 
     reads-one : readAt s html checks keys o ≡ reading (found (attributeOf o a) (Next (next o a))) kept
     unfolding readAt readKey valuedOf valuedTo valuedBy attributeOf
@@ -124,8 +125,9 @@ module _ (s : List ℕ) (html checks : Bool) where
     unfolding keptBy checkOf Distinct Absent
     awaits-next distinct =
         record {
-          inside = keys-after s checks (keys .starts) (keys .ends) (keys .count) (nameStart o a) (nameEnd o a) (length s) (ready .inside) (ready .room) (name-order s o a rest here fine) (name-inside s o a rest here fine);
-          room = room-stays checks (checkOf s checks keys key) (checkOf s checks keys key) (keys .starts) (keys .ends) (keys .count) (keys .count) (nameStart o a) (nameEnd o a) (ready .room);
+          inside = keys-held s (keys .starts) (keys .ends) (keys .hashes) (keys .count) (nameStart o a) (nameEnd o a) (ready .inside) checks (name-order s o a rest here fine) (name-inside s o a rest here fine)
+              (room-holds s (keys .starts) (keys .ends) (keys .hashes) (keys .count) (nameStart o a) (nameEnd o a) (ready .inside) checks (ready .room));
+          room = room-stays checks (checkOf s checks keys key) (keys .starts) (keys .ends) (keys .hashes) (keys .count) (nameStart o a) (nameEnd o a) (hashOf (part s (nameStart o a) (nameEnd o a))) (ready .room);
           few = λ on. omega (arith, count-on on, ready .few on);
           fresh = λ on k lt.
               ⊎-elim (λ (e : k ≡ keys .count). subst (λ (n : List ℕ). Absent n more) (sym (name-new on k e)) (distinct on .0))
@@ -166,8 +168,8 @@ awaits-first : (s : List ℕ) (checks : Bool) (more : List Attribute) → (check
 unfolding noKeys
 awaits-first s checks more few =
     record {
-      inside = keys-none (noKeys .starts) (noKeys .ends) (length s);
-      room = record { room = λ on. (omega (arith, length-replicate {A = ℕ} capacity 0), omega (arith, length-replicate {A = ℕ} capacity 0)) };
+      inside = keys-none (noKeys .starts) (noKeys .ends) (noKeys .hashes) s;
+      room = record { room = λ on. (omega (arith, length-replicate {A = ℕ} capacity 0), omega (arith, length-replicate {A = ℕ} capacity 0), omega (arith, length-replicate {A = ℕ} capacity 0)) };
       few = λ on. omega (arith, few on);
       fresh = λ on k lt. absurd (omega arith);
     }

@@ -9,7 +9,8 @@ use native.Mathlib.Omega.{arith}
 use lib.ListN.{length, replicate, length-replicate}
 use Rattle.scan.specs.First.{firstOf, firstTo, firstFrom}
 use Rattle.scan.specs.Bytes.{isSpace, notSpace, endsKey, isByte, part, sameBytes, bytesFrom, bytes}
-use Rattle.tag_keys.specs.Keys.{capacity, keyGood, keyBad, countGood, tableGood, nameAt, sameKey, oldestOf, earlierOf, checkedBy, checkedOf, writtenBy, countBy}
+use Rattle.tag_keys.specs.Hash.{timesPrime, hashFrom, hashOf}
+use Rattle.tag_keys.specs.Keys.{capacity, keyGood, hashIs, keyBad, countGood, tableGood, nameAt, sameKey, oldestOf, earlierOf, checkedBy, checkedOf, writtenBy, countBy}
 use Rattle.tag_step.specs.declared.Place.the-variants.{SkipValue}
 use Rattle.tag_step.specs.declared.Start.the-variants.{From}
 use Rattle.tag_step.specs.declared.Answer.the-variants.{DoubleQ, SingleQ, Duplicated, BadState}
@@ -171,7 +172,7 @@ again = nextOf (bytes "a='1' a=\"2 3\" b='4'") (opened 0 false true) .state
 pub resume-example :
     let s = bytes "a='1' a=\"2 3\" b='4'" in
     (nextOf s again .answer ≡ Duplicated 6 0) × (recoverOf s (nextOf s again .state .place) ≡ From 10)
-unfolding firstOf firstTo firstFrom isSpace notSpace endsKey isByte part sameBytes bytesFrom bytes keyGood keyBad countGood tableGood nameAt sameKey oldestOf earlierOf checkedBy checkedOf writtenBy countBy isAt isQuote skipTo skipOf recoverOf keyEq keyTo keyFrom keyAt quoted closedOf quotedTo quotedOf unquotedTo otherOf valueBy valueFrom valueAt checkOf keptBy placeAt bareBy bareTo bareOf valuedBy valuedTo valuedOf readKey readAt stepFrom stepOf placeGood keysOf stateGood noKeys badReading leaves nextOf opened fromOrEnded fromWhitespace afterKey afterDuplicate resumesAt
+unfolding firstOf firstTo firstFrom isSpace notSpace endsKey isByte part sameBytes bytesFrom bytes timesPrime hashFrom hashOf keyGood hashIs keyBad countGood tableGood nameAt sameKey oldestOf earlierOf checkedBy checkedOf writtenBy countBy isAt isQuote skipTo skipOf recoverOf keyEq keyTo keyFrom keyAt quoted closedOf quotedTo quotedOf unquotedTo otherOf valueBy valueFrom valueAt checkOf keptBy placeAt bareBy bareTo bareOf valuedBy valuedTo valuedOf readKey readAt stepFrom stepOf placeGood keysOf stateGood noKeys badReading leaves nextOf opened fromOrEnded fromWhitespace afterKey afterDuplicate resumesAt
 resume-example = (refl, resume-exact (bytes "a='1' a=\"2 3\" b='4'") again)
 
 -- From an opened iterator there are at most as many answers as bytes; a skip place outside the tag is answered once, by 7.
@@ -180,8 +181,8 @@ unfolding recoverOf opened bytes bytesFrom
 run-ends-example = run-ends (bytes "a=1 b='2'") (opened 0 false true) (opened-sized 0 false true) (opened-good (bytes "a=1 b='2'") 0 false true)
 
 abbrev outside : IterState
-outside = lentState (SkipValue 1) false true (replicate capacity 0) (replicate capacity 0) 0
+outside = lentState (SkipValue 1) false true (replicate capacity 0) (replicate capacity 0) (replicate capacity 0) 0
 
 pub bad-run-example : answersOf (bytes "a") outside ≡ BadState ∷ []
 unfolding firstOf firstTo bytes bytesFrom keyGood keyBad countGood tableGood placeGood stateGood
-bad-run-example = bad-run-ends (bytes "a") outside (record { starts = length-replicate {A = ℕ} capacity 0; ends = length-replicate {A = ℕ} capacity 0 }) refl
+bad-run-example = bad-run-ends (bytes "a") outside (record { starts = length-replicate {A = ℕ} capacity 0; ends = length-replicate {A = ℕ} capacity 0; hashes = length-replicate {A = ℕ} capacity 0 }) refl

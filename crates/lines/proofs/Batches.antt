@@ -149,7 +149,7 @@ module _ (s : List ℕ) (st : IterState) (out : List ℕ) where
   pub batch-sizes : (length (batchOf s st out .out) ≡ length out) × (5 * answersCount (batchOf s st out .batch) ≤ length out)
   unfolding batchOf readOf batchShown
   batch-sizes = by (tablesLent st) where
-    by : (t : Bool) → (length (pick t (readOf s st out) (batched WrongTables (st .starts) (st .ends) out) .out) ≡ length out) × (5 * answersCount (pick t (readOf s st out) (batched WrongTables (st .starts) (st .ends) out) .batch) ≤ length out)
+    by : (t : Bool) → (length (pick t (readOf s st out) (batched WrongTables (st .starts) (st .ends) (st .hashes) out) .out) ≡ length out) × (5 * answersCount (pick t (readOf s st out) (batched WrongTables (st .starts) (st .ends) (st .hashes) out) .batch) ≤ length out)
     by true = (over-length out 0 (fivesOf (ranOf (answersRoom out) s st .answers)) (omega (arith, read-fits, fives-length (ranOf (answersRoom out) s st .answers))), read-fits)
     by false = (refl, omega arith)
 
@@ -163,17 +163,17 @@ modes (suc n) s st = modes-of (isEnd (nextOf s st .answer)) st (nextOf s st .sta
   modes-of true st x y a b c = (a, b)
   modes-of false st x y a b c = (c .0 ∙ a, c .1 ∙ b)
 
-state-is : (x : IterState) {place : Place} {html checks : Bool} {starts ends : List ℕ} {count : ℕ} → place ≡ x .place → html ≡ x .html → checks ≡ x .«check_duplicates» → starts ≡ x .starts → ends ≡ x .ends → count ≡ x .count → lentState place html checks starts ends count ≡ x
-state-is x a b c d e f = rw (a, b, c, d, e, f)
+state-is : (x : IterState) {place : Place} {html checks : Bool} {starts ends hashes : List ℕ} {count : ℕ} → place ≡ x .place → html ≡ x .html → checks ≡ x .«check_duplicates» → starts ≡ x .starts → ends ≡ x .ends → hashes ≡ x .hashes → count ≡ x .count → lentState place html checks starts ends hashes count ≡ x
+state-is x a b c d e f g = rw (a, b, c, d, e, f, g)
 
 -- What a caller has after a batch on its own tables.
-module _ (s : List ℕ) (place : Place) (html checks : Bool) (starts ends : List ℕ) (count : ℕ) (out : List ℕ) where
+module _ (s : List ℕ) (place : Place) (html checks : Bool) (starts ends hashes : List ℕ) (count : ℕ) (out : List ℕ) where
   abbrev stood : IterState
-  stood = lentState place html checks starts ends count
+  stood = lentState place html checks starts ends hashes count
 
-  module _ (z : Sized stood) {b : Batch} {starts' ends' written : List ℕ} (e : batched b starts' ends' written ≡ batchOf s stood out) where
+  module _ (z : Sized stood) {b : Batch} {starts' ends' hashes' written : List ℕ} (e : batched b starts' ends' hashes' written ≡ batchOf s stood out) where
     -- all that it has, for full tables
-    is : batched b starts' ends' written ≡ batched (Read (length (runOf (answersRoom out) s stood)) (leftOf (answersRoom out) s stood .place) (leftOf (answersRoom out) s stood .count) (ranOf (answersRoom out) s stood .why)) (leftOf (answersRoom out) s stood .starts) (leftOf (answersRoom out) s stood .ends) (over out 0 (fivesOf (runOf (answersRoom out) s stood)))
+    is : batched b starts' ends' hashes' written ≡ batched (Read (length (runOf (answersRoom out) s stood)) (leftOf (answersRoom out) s stood .place) (leftOf (answersRoom out) s stood .count) (ranOf (answersRoom out) s stood .why)) (leftOf (answersRoom out) s stood .starts) (leftOf (answersRoom out) s stood .ends) (leftOf (answersRoom out) s stood .hashes) (over out 0 (fivesOf (runOf (answersRoom out) s stood)))
     is = e ∙ full-batch s stood out z
 
     pub never-wrong : b ≡ WrongTables → ⊥
@@ -191,11 +191,11 @@ module _ (s : List ℕ) (place : Place) (html checks : Bool) (starts ends : List
           let f = ap (λ (x : Batched). x .batch) is in
           cc
 
-      pub read-left : lentState next html checks starts' ends' keys ≡ leftOf (answersRoom out) s stood
+      pub read-left : lentState next html checks starts' ends' hashes' keys ≡ leftOf (answersRoom out) s stood
       read-left =
           let f = ap (λ (x : Batched). x .batch) is in
           let m = modes (answersRoom out) s stood in
-          state-is (leftOf (answersRoom out) s stood) (cc) (sym (m .0)) (sym (m .1)) (ap (λ (x : Batched). x .starts) is) (ap (λ (x : Batched). x .ends) is) (cc)
+          state-is (leftOf (answersRoom out) s stood) (cc) (sym (m .0)) (sym (m .1)) (ap (λ (x : Batched). x .starts) is) (ap (λ (x : Batched). x .ends) is) (ap (λ (x : Batched). x .hashes) is) (cc)
 
       pub read-front : take (5 * n) written ≡ fivesOf (runOf (answersRoom out) s stood)
       unfolding over

@@ -48,22 +48,22 @@ fives-text (a ∷ l) =
     rw (take-at (fiveOf a) (fivesOf l) 5 (five-length a), drop-at (fiveOf a) (fivesOf l) 5 (five-length a), own-numbers a, fives-text l)
 
 -- With room for 107 bytes an answer, a page is the lines of the next answers of the run.
-pub page-lines : (s : List ℕ) (place : Place) (html checks : Bool) (starts ends : List ℕ) (count : ℕ) (numbers text : List ℕ) →
-    let st = lentState place html checks starts ends count in
+pub page-lines : (s : List ℕ) (place : Place) (html checks : Bool) (starts ends hashes : List ℕ) (count : ℕ) (numbers text : List ℕ) →
+    let st = lentState place html checks starts ends hashes count in
     Sized st → 107 * answersRoom numbers ≤ length text → linesBy (batchOf s st numbers) text ≡ linesOf (runOf (answersRoom numbers) s st)
 unfolding linesBy
-page-lines s place html checks starts ends count numbers text z h =
-    let st = lentState place html checks starts ends count in
+page-lines s place html checks starts ends hashes count numbers text z h =
+    let st = lentState place html checks starts ends hashes count in
     let l : List Answer = runOf (answersRoom numbers) s st in
     let many = fives-length l in
     let few = run-most (answersRoom numbers) s st in
     let n : length (fivesOf l) / 5 ≡ length l = omega arith in
-    let front : take (5 * answersCount (batchOf s st numbers .batch)) (batchOf s st numbers .out) ≡ fivesOf l = rw (full-batch s st numbers z) (read-front s place html checks starts ends count numbers z (sym (full-batch s st numbers z)) refl) in
+    let front : take (5 * answersCount (batchOf s st numbers .batch)) (batchOf s st numbers .out) ≡ fivesOf l = rw (full-batch s st numbers z) (read-front s place html checks starts ends hashes count numbers z (sym (full-batch s st numbers z)) refl) in
     rw (front, lines-room (fivesOf l) text (omega arith), n, fives-text l)
 
 -- what a page leaves, part by part
-module _ (s : List ℕ) (st : IterState) (numbers text : List ℕ) {p : Paged} {starts' ends' numbers' text' : List ℕ} (e : pageLeft p starts' ends' numbers' text' ≡ pageOf s st numbers text) where
-  pub page-batch : batched (p .left) starts' ends' numbers' ≡ batchOf s st numbers
+module _ (s : List ℕ) (st : IterState) (numbers text : List ℕ) {p : Paged} {starts' ends' hashes' numbers' text' : List ℕ} (e : pageLeft p starts' ends' hashes' numbers' text' ≡ pageOf s st numbers text) where
+  pub page-batch : batched (p .left) starts' ends' hashes' numbers' ≡ batchOf s st numbers
   unfolding pageOf pageBy
   page-batch = ap (λ (x : PageLeft). x .batch) e
 
@@ -76,6 +76,6 @@ module _ (s : List ℕ) (st : IterState) (numbers text : List ℕ) {p : Paged} {
   page-text = ap (λ (x : PageLeft). x .text) e
 
 -- what the code makes
-pub page-is : (s : List ℕ) (st : IterState) (numbers text : List ℕ) (left : Batch) (starts' ends' numbers' text' : List ℕ) (k len : ℕ) → batched left starts' ends' numbers' ≡ batchOf s st numbers → k ≡ answersCount left → len ≡ length (linesIn (take (5 * k) numbers') text) → text' ≡ over text 0 (linesIn (take (5 * k) numbers') text) → pageLeft (record { left = left; length = len }) starts' ends' numbers' text' ≡ pageOf s st numbers text
+pub page-is : (s : List ℕ) (st : IterState) (numbers text : List ℕ) (left : Batch) (starts' ends' hashes' numbers' text' : List ℕ) (k len : ℕ) → batched left starts' ends' hashes' numbers' ≡ batchOf s st numbers → k ≡ answersCount left → len ≡ length (linesIn (take (5 * k) numbers') text) → text' ≡ over text 0 (linesIn (take (5 * k) numbers') text) → pageLeft (record { left = left; length = len }) starts' ends' hashes' numbers' text' ≡ pageOf s st numbers text
 unfolding pageOf pageBy linesBy
-page-is s st numbers text left starts' ends' numbers' text' k len e ek el et = rw (el, et, ek) (ap (λ (x : Batched). pageBy x text) e)
+page-is s st numbers text left starts' ends' hashes' numbers' text' k len e ek el et = rw (el, et, ek) (ap (λ (x : Batched). pageBy x text) e)

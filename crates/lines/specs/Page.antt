@@ -21,10 +21,10 @@ pub record PageLeft : Type 0 where
   pub length : ℕ
   pub text : List ℕ
 
-abbrev pub pageLeft : Paged → (starts ends numbers text : List ℕ) → PageLeft
-pageLeft p starts ends numbers text =
+abbrev pub pageLeft : Paged → (starts ends hashes numbers text : List ℕ) → PageLeft
+pageLeft p starts ends hashes numbers text =
     record {
-      batch = record { batch = p .left; starts = starts; ends = ends; out = numbers };
+      batch = record { batch = p .left; starts = starts; ends = ends; hashes = hashes; out = numbers };
       length = p .length;
       text = text;
     }

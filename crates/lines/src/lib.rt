@@ -6,12 +6,12 @@
 // `D`, `S`, `U` with the bounds of key and value, `B` with those of a bare key, `E` with a refusal's number and its values.
 // The definitions are in specs/Lines.antt.
 use tag_batch::Batch;
-use tag_step::Place;
+use tag_step::Standing;
 ghost use mathlib.Core.Path.{_≡_};
 ghost use Prim.Native.Nat.{_+_, _*_, _≤_};
 ghost use lib.ListN.{length};
 ghost use Rattle.scan.specs.Lists.{over};
-ghost use Rattle.tag_step.specs.Next.{lentState};
+ghost use Rattle.tag_step.specs.Next.{standsAt};
 ghost use Rattle.lines.specs.Lines.{decimalOf, spaced, letterOf, shownFrom, valuesOf, ownOf, lineOf, linesIn};
 ghost use Rattle.lines.specs.Page.{answersCount, pageLeft, pageOf};
 
@@ -159,31 +159,22 @@ pub struct Paged {
     pub length: usize,
 }
 
-// How a tag is read: in HTML mode or in XML mode, and whether keys are checked and recorded.
-pub struct Mode {
-    pub html: bool,
-    pub checks: bool,
-}
-
 // The lines of the next answers of a run, as many as `numbers` holds, at the front of `out`. The rest is as in
 // `tag_batch::read_batch`.
 pub fn page<'a>(
     tag: &[u8],
     starts: &'a mut [usize],
     ends: &'a mut [usize],
-    mode: Mode,
-    count: usize,
-    place: Place,
+    hashes: &'a mut [u32],
+    at: Standing,
     numbers: &mut [usize],
     out: &mut [u8],
 ) -> Paged
     ensures { λ r.
-        ⌜ pageLeft r (now (starts .exit)) (now (ends .exit)) (now (numbers .exit)) (now (out .exit))
-        ≡ pageOf (now (tag .entry)) (lentState place (mode .html) (mode .checks) (now (starts .entry)) (now (ends .entry)) count) (now (numbers .entry)) (now (out .entry)) ⌝ }
+        ⌜ pageLeft r (now (starts .exit)) (now (ends .exit)) (now (hashes .exit)) (now (numbers .exit)) (now (out .exit))
+        ≡ pageOf (now (tag .entry)) (standsAt at (now (starts .entry)) (now (ends .entry)) (now (hashes .entry))) (now (numbers .entry)) (now (out .entry)) ⌝ }
 {
-    let html = mode.html;
-    let checks = mode.checks;
-    let left = tag_batch::read_batch(tag, starts, ends, html, checks, count, place, numbers);
+    let left = tag_batch::read_batch(tag, starts, ends, hashes, at, numbers);
     let to = 5 * answers(left);
     let length = put_lines(&numbers[..to], out);
     Paged {

@@ -24,15 +24,16 @@ unfoldable pub answersAgree : List ℕ → IterState → (answers : ℕ) → (re
 answersAgree s st answers recorded = sameBytes (fivesOf (answersOf s st)) (twosOf (5 * answers) recorded)
 
 -- lent tables, an output with room for an answer, and the recorded numbers all there
-pub record ReplayMemory (s e out : List ℕ) (answers : ℕ) (recorded : List ℕ) : Type 0 where
+pub record ReplayMemory (s e h out : List ℕ) (answers : ℕ) (recorded : List ℕ) : Type 0 where
   pub starts : length s ≡ capacity
   pub ends : length e ≡ capacity
+  pub hashes : length h ≡ capacity
   pub room : 5 ≤ length out
   pub whole : 10 * answers ≤ length recorded
 
 -- an iterator opened at a position on lent tables
-unfoldable pub replayOpened : ℕ → Bool → Bool → List ℕ → List ℕ → IterState
-replayOpened o html checks starts ends = lentState (Next o) html checks starts ends 0
+unfoldable pub replayOpened : ℕ → Bool → Bool → (starts ends hashes : List ℕ) → IterState
+replayOpened o html checks starts ends hashes = lentState (Next o) html checks starts ends hashes 0
 
 -- whether the answers of a record are ours: behind the tag stand the mode, the checks, the opening position, how many answers
 -- there are, and their numbers

@@ -7,7 +7,6 @@
 // An answer's five numbers are those of `tag_batch::numbers`. Each record is read three times: in batches of 512 answers and of
 // one, since the run is the same however it is cut, and by the iterator that carries its tag, one `next` after another. What
 // is counted is `tagsReplayed`, specs/Replay.antt.
-use lines::Mode;
 use replay::RecordStep;
 use replay::Replayed;
 use replay::RunEnd;
@@ -16,6 +15,7 @@ use tag_batch::Five;
 use tag_keys::CAPACITY;
 use tag_step::IterState;
 use tag_step::Place;
+use tag_step::Standing;
 ghost use mathlib.Core.Path.{_≡_};
 ghost use Prim.Native.Nat.{_*_, _≤_};
 ghost use lib.ListN.{length};
@@ -24,6 +24,13 @@ ghost use Rattle.tag_step.specs.Next.{opened};
 ghost use Rattle.tag_batch.specs.Batch.{listed};
 ghost use Rattle.replay.specs.Numbers.{twosOf};
 ghost use Rattle.replay_tags.specs.Replay.{answersAgree, ReplayMemory, replayOpened, tagRecordOf, tagsReplayed};
+
+// How a recorded tag was read: in HTML mode or in XML mode, whether keys were checked and recorded, and from where.
+pub struct Mode {
+    pub html: bool,
+    pub checks: bool,
+    pub opening: usize,
+}
 
 fn wide(b: u8) -> usize
     ensures { λ r. ⌜ r ≡ b ⌝ }
@@ -35,23 +42,29 @@ fn wide(b: u8) -> usize
 fn agrees_on<'a>(
     tag: &[u8],
     mode: Mode,
-    opening: usize,
     answers: usize,
     recorded: &[u8],
     starts: &'a mut [usize],
     ends: &'a mut [usize],
+    hashes: &'a mut [u32],
     out: &mut [usize],
 ) -> bool
-    requires { ⌜ ReplayMemory (now starts) (now ends) (now out) answers (now recorded) ⌝ }
-    ensures { λ r. ⌜ r ≡ answersAgree (now (tag .entry)) (replayOpened opening (mode .html) (mode .checks) (now (starts .entry)) (now (ends .entry))) answers (now (recorded .entry)) ⌝ }
+    requires { ⌜ ReplayMemory (now starts) (now ends) (now hashes) (now out) answers (now recorded) ⌝ }
+    ensures { λ r. ⌜ r ≡ answersAgree (now (tag .entry)) (replayOpened (mode .opening) (mode .html) (mode .checks) (now (starts .entry)) (now (ends .entry)) (now (hashes .entry))) answers (now (recorded .entry)) ⌝ }
 {
     let html = mode.html;
     let checks = mode.checks;
-    let mut place = Place::Next(opening);
+    let mut place = Place::Next(mode.opening);
     let mut keys = 0;
     let mut total = 0;
     loop {
-        let left = tag_batch::read_batch(tag, starts, ends, html, checks, keys, place, out);
+        let at = Standing {
+            place: place,
+            html: html,
+            checks: checks,
+            count: keys,
+        };
+        let left = tag_batch::read_batch(tag, starts, ends, hashes, at, out);
         let Batch::Read(n, next, count, _) = left else {
             return false;
         };
@@ -72,27 +85,21 @@ fn agrees_on<'a>(
     }
 }
 
-fn agrees(
-    tag: &[u8],
-    mode: Mode,
-    opening: usize,
-    answers: usize,
-    recorded: &[u8],
-    out: &mut [usize],
-) -> bool
+fn agrees(tag: &[u8], mode: Mode, answers: usize, recorded: &[u8], out: &mut [usize]) -> bool
     requires { ⌜ (5 ≤ length (now out)) × (10 * answers ≤ length (now recorded)) ⌝ }
-    ensures { λ r. ⌜ r ≡ answersAgree (now (tag .entry)) (opened opening (mode .html) (mode .checks)) answers (now (recorded .entry)) ⌝ }
+    ensures { λ r. ⌜ r ≡ answersAgree (now (tag .entry)) (opened (mode .opening) (mode .html) (mode .checks)) answers (now (recorded .entry)) ⌝ }
 {
     let mut starts = [0usize; CAPACITY];
     let mut ends = [0usize; CAPACITY];
+    let mut hashes = [0u32; CAPACITY];
     agrees_on(
         tag,
         mode,
-        opening,
         answers,
         recorded,
         &mut starts,
         &mut ends,
+        &mut hashes,
         out,
     )
 }
@@ -155,18 +162,17 @@ fn agrees_by(
     carried: bool,
     tag: &[u8],
     mode: Mode,
-    opening: usize,
     answers: usize,
     recorded: &[u8],
     out: &mut [usize],
 ) -> bool
     requires { ⌜ (5 ≤ length (now out)) × (10 * answers ≤ length (now recorded)) ⌝ }
-    ensures { λ r. ⌜ r ≡ answersAgree (now (tag .entry)) (opened opening (mode .html) (mode .checks)) answers (now (recorded .entry)) ⌝ }
+    ensures { λ r. ⌜ r ≡ answersAgree (now (tag .entry)) (opened (mode .opening) (mode .html) (mode .checks)) answers (now (recorded .entry)) ⌝ }
 {
     if carried {
-        return agrees_carried(tag, mode.html, mode.checks, opening, answers, recorded);
+        return agrees_carried(tag, mode.html, mode.checks, mode.opening, answers, recorded);
     }
-    agrees(tag, mode, opening, answers, recorded, out)
+    agrees(tag, mode, answers, recorded, out)
 }
 
 fn record_of(rest: &[u8], carried: bool, out: &mut [usize]) -> RecordStep
@@ -189,16 +195,9 @@ fn record_of(rest: &[u8], carried: bool, out: &mut [usize]) -> RecordStep
     let mode = Mode {
         html: wide(tail[0]) == 1,
         checks: wide(tail[1]) == 1,
+        opening: replay::number_at(tail, 2),
     };
-    if agrees_by(
-        carried,
-        &rest[2..to],
-        mode,
-        replay::number_at(tail, 2),
-        answers,
-        &tail[6..],
-        out,
-    ) {
+    if agrees_by(carried, &rest[2..to], mode, answers, &tail[6..], out) {
         return RecordStep::Agrees(8 + n + 10 * answers, 0, 0);
     }
     RecordStep::Differs

@@ -1,9 +1,9 @@
 // The iterator's rows of document 01, "Bytes to hold against the rules", read with checks on. What it writes is held against
 // `stdout`, which was written from the document. A row: the mode (`x` XML, `h` HTML), the opening position, the tag between
 // bars; then its answers, a line each (crates/lines), and `end`.
-use lines::Mode;
 use tag_keys::CAPACITY;
 use tag_step::Place;
+use tag_step::Standing;
 
 fn row_on<'a>(
     tag: &[u8],
@@ -11,22 +11,17 @@ fn row_on<'a>(
     open: usize,
     starts: &'a mut [usize],
     ends: &'a mut [usize],
+    hashes: &'a mut [u32],
     numbers: &mut [usize],
     text: &mut [u8],
 ) {
-    let page = lines::page(
-        tag,
-        starts,
-        ends,
-        Mode {
-            html: html,
-            checks: true,
-        },
-        0,
-        Place::Next(open),
-        numbers,
-        text,
-    );
+    let at = Standing {
+        place: Place::Next(open),
+        html: html,
+        checks: true,
+        count: 0,
+    };
+    let page = lines::page(tag, starts, ends, hashes, at, numbers, text);
     let length = page.length;
     if length <= text.len() {
         io::write_all(1, &text[..length]);
@@ -45,6 +40,7 @@ fn row(tag: &[u8], html: bool, open: usize) {
     io::write_all(1, b"|\n");
     let mut starts = [0usize; CAPACITY];
     let mut ends = [0usize; CAPACITY];
+    let mut hashes = [0u32; CAPACITY];
     let mut numbers = [0usize; 80];
     let mut text = [0u8; 1712];
     row_on(
@@ -53,6 +49,7 @@ fn row(tag: &[u8], html: bool, open: usize) {
         open,
         &mut starts,
         &mut ends,
+        &mut hashes,
         &mut numbers,
         &mut text,
     );

@@ -6,7 +6,8 @@ use mathlib.Core.List.{List, [], _∷_, _++_}
 use lib.ListN.{length-replicate}
 use Rattle.scan.specs.First.{firstOf, firstTo, firstFrom}
 use Rattle.scan.specs.Bytes.{isSpace, notSpace, endsKey, isByte, part, inside, sameBytes, bytesFrom, bytes}
-use Rattle.tag_keys.specs.Keys.{capacity, keyGood, keyBad, countGood, tableGood, nameAt, sameKey, oldestOf, earlierOf, checkedBy, checkedOf, writtenBy, countBy}
+use Rattle.tag_keys.specs.Hash.{timesPrime, hashFrom, hashOf}
+use Rattle.tag_keys.specs.Keys.{capacity, keyGood, hashIs, keyBad, countGood, tableGood, nameAt, sameKey, oldestOf, earlierOf, checkedBy, checkedOf, writtenBy, countBy}
 use Rattle.tag_step.specs.declared.IterState.{IterState}
 use Rattle.tag_step.specs.Read.{isAt, isQuote, skipTo, skipOf, recoverOf, keyEq, keyTo, keyFrom, keyAt, quoted, closedOf, quotedTo, quotedOf, unquotedTo, otherOf, valueBy, valueFrom, valueAt}
 use Rattle.tag_step.specs.Next.{checkOf, keptBy, placeAt, bareBy, bareTo, bareOf, valuedBy, valuedTo, valuedOf, readKey, readAt, stepFrom, stepOf, placeGood, keysOf, stateGood, noKeys, badReading, leaves, nextOf, opened}
@@ -41,14 +42,14 @@ start checks = opened 0 false checks
 
 sized : (checks : Bool) → Sized (start checks)
 unfolding opened noKeys
-sized checks = record { starts = length-replicate {A = ℕ} capacity 0; ends = length-replicate {A = ℕ} capacity 0 }
+sized checks = record { starts = length-replicate {A = ℕ} capacity 0; ends = length-replicate {A = ℕ} capacity 0; hashes = length-replicate {A = ℕ} capacity 0 }
 
 -- `nil` with no prefix is no such name, and 3 counts as no; the last one says yes, unless it is refused as a duplicate
 abbrev tag : List ℕ
 tag = bytes "nil='1' xsi:nil=1 xsi:nil=\"true\""
 
 pub nil-instance : (hasNilOf tag (start false) typed .answer ≡ Yes) × (hasNilOf tag (start true) typed .answer ≡ No)
-unfolding firstOf firstTo firstFrom isSpace notSpace endsKey isByte part inside sameBytes bytesFrom bytes keyGood keyBad countGood tableGood nameAt sameKey oldestOf earlierOf checkedBy checkedOf writtenBy countBy isAt isQuote skipTo skipOf recoverOf keyEq keyTo keyFrom keyAt quoted closedOf quotedTo quotedOf unquotedTo otherOf valueBy valueFrom valueAt checkOf keptBy placeAt bareBy bareTo bareOf valuedBy valuedTo valuedOf readKey readAt stepFrom stepOf placeGood keysOf stateGood noKeys badReading leaves nextOf opened isEnd consUnless runOf answersOf keyPart valuePart truthOf colonAt hasColon prefixOf localAt localOf lastBelow prefixIn builtIn hasPrefix isDefault valueOr explicitOf defaultOf amongOf uriPart isYes instanceUri isNil saysNil anyNil
+unfolding firstOf firstTo firstFrom isSpace notSpace endsKey isByte part inside sameBytes bytesFrom bytes timesPrime hashFrom hashOf keyGood hashIs keyBad countGood tableGood nameAt sameKey oldestOf earlierOf checkedBy checkedOf writtenBy countBy isAt isQuote skipTo skipOf recoverOf keyEq keyTo keyFrom keyAt quoted closedOf quotedTo quotedOf unquotedTo otherOf valueBy valueFrom valueAt checkOf keptBy placeAt bareBy bareTo bareOf valuedBy valuedTo valuedOf readKey readAt stepFrom stepOf placeGood keysOf stateGood noKeys badReading leaves nextOf opened isEnd consUnless runOf answersOf keyPart valuePart truthOf colonAt hasColon prefixOf localAt localOf lastBelow prefixIn builtIn hasPrefix isDefault valueOr explicitOf defaultOf amongOf uriPart isYes instanceUri isNil saysNil anyNil
 nil-instance = (
   nil-among-answers tag (start false) typed typed-valid (sized false) (opened-good tag 0 false false),
   nil-among-answers tag (start true) typed typed-valid (sized true) (opened-good tag 0 false true),

@@ -21,8 +21,9 @@ use Rattle.tag_keys.specs.Keys.{capacity, holds, tableGood, KeysIn}
 use Rattle.tag_keys.proofs.Laws.{table-in, facts-hold}
 use Rattle.tag_step.specs.declared.Place.the-variants.{Done}
 use Rattle.tag_step.specs.declared.IterState.{IterState}
+use Rattle.tag_step.specs.declared.Standing.{Standing}
 use Rattle.tag_step.specs.declared.Answer.{Answer}
-use Rattle.tag_step.specs.Next.{placeGood, stateGood, nextOf, lentState}
+use Rattle.tag_step.specs.Next.{placeGood, stateGood, nextOf, lentState, standsAt}
 use Rattle.tag_step.specs.Lent.{wholeOf, steppedOf}
 use Rattle.tag_step.specs.Run.{isEnd}
 use Rattle.tag_step.proofs.Good.{Sized, next-stays-good, next-sized}
@@ -46,9 +47,8 @@ use Rattle.scope_lookup.specs.declared.Resolved.{Resolved}
 use Rattle.scope_lookup.specs.declared.Resolved.the-variants.{Bound, Unbound, Unknown}
 use Rattle.scope_table.proofs.Last.{last-within}
 use Rattle.scope_lookup.proofs.Padded.{pad-among, ready-inside}
-use Rattle.scope_nil.specs.Nil.{said, standsAt, nilLeftBy, unmovedBy, isYes, instanceUri, isNil, saysNil, searchOf, searched, hasNilOf, heldNil, wholeSearch, nilOnKeys, keysFit, hasNilIn, Searchable, Resting}
+use Rattle.scope_nil.specs.Nil.{said, nilLeftBy, unmovedBy, isYes, instanceUri, isNil, saysNil, searchOf, searched, hasNilOf, heldNil, wholeSearch, nilOnKeys, keysFit, hasNilIn, Searchable, Resting}
 use Rattle.scope_nil.specs.declared.HasNil.{HasNil}
-use Rattle.scope_nil.specs.declared.Standing.{Standing}
 use Rattle.scope_nil.specs.declared.Left.{Left}
 use Rattle.scope_nil.specs.declared.Nil.the-variants as Nil
 
@@ -124,9 +124,9 @@ search-keeps (suc n) x s st z g =
     picks (Kept s) (isEnd (y .answer)) (λ t. (w, e))
     (λ t. picks (Kept s) (saysNil x s (y .answer)) (λ u. (w, e)) (λ u. search-keeps n x s (y .state) w e))
 
-good-few : (s : List ℕ) (st : IterState) → stateGood s st ≡ true → KeysIn (st .starts) (st .ends) (st .count) (length s)
+good-few : (s : List ℕ) (st : IterState) → stateGood s st ≡ true → KeysIn (st .starts) (st .ends) (st .hashes) (st .count) s
 unfolding stateGood
-good-few s st g = table-in (length s) (st .starts) (st .ends) (st .count) (both (tableGood (length s) (st .starts) (st .ends) (st .count)) (placeGood s (st .place)) g .0)
+good-few s st g = table-in s (st .starts) (st .ends) (st .hashes) (st .count) (both (tableGood s (st .starts) (st .ends) (st .hashes) (st .count)) (placeGood s (st .place)) g .0)
 
 -- Tables of full size are the iterator's own.
 pub full-search : (x : NamespaceResolver) (s : List ℕ) (st : IterState) → Sized st → stateGood s st ≡ true → searched x s st ≡ wholeSearch x s st
@@ -137,9 +137,10 @@ full-search x s st z g =
     let f = good-few s (h .state) (k .1) in
     rw (
       whole-full st z,
-      facts-hold (st .starts) (st .ends) (h .state .count) (omega (arith, f .few, z .starts)) (omega (arith, f .few, z .ends)),
+      facts-hold (st .starts) (st .ends) (st .hashes) (h .state .count) (omega (arith, f .few, z .starts), omega (arith, f .few, z .ends), omega (arith, f .few, z .hashes)),
       take-all (length (st .starts)) (h .state .starts) (omega (arith, z .starts, k .0 .starts)),
       take-all (length (st .ends)) (h .state .ends) (omega (arith, z .ends, k .0 .ends)),
+      take-all (length (st .hashes)) (h .state .hashes) (omega (arith, z .hashes, k .0 .hashes)),
     )
 
 -- `has_nil` on tables of full size is that of the iterator.
@@ -152,9 +153,9 @@ full-nil s st x z = ap (λ (h : HasNil). pick (validOf x) h (said Nil.BadResolve
 
 -- Lent tables.
 module _ (st : IterState) where
-  pub keys-fit : length (st .starts) ≤ capacity → length (st .ends) ≤ capacity → keysFit st ≡ true
+  pub keys-fit : length (st .starts) ≤ capacity → length (st .ends) ≤ capacity → length (st .hashes) ≤ capacity → keysFit st ≡ true
   unfolding keysFit
-  keys-fit a b = rw (le-leb (length (st .starts)) capacity a, le-leb (length (st .ends)) capacity b)
+  keys-fit a b d = rw (le-leb (length (st .starts)) capacity a, le-leb (length (st .ends)) capacity b, le-leb (length (st .hashes)) capacity d)
 
   pub keys-long : capacity < length (st .starts) → keysFit st ≡ false
   unfolding keysFit
@@ -163,6 +164,10 @@ module _ (st : IterState) where
   pub ends-long : length (st .starts) ≤ capacity → capacity < length (st .ends) → keysFit st ≡ false
   unfolding keysFit
   ends-long a b = rw (le-leb (length (st .starts)) capacity a, lt-leb (length (st .ends)) capacity b)
+
+  pub hashes-long : length (st .starts) ≤ capacity → length (st .ends) ≤ capacity → capacity < length (st .hashes) → keysFit st ≡ false
+  unfolding keysFit
+  hashes-long a b d = rw (le-leb (length (st .starts)) capacity a, le-leb (length (st .ends)) capacity b, lt-leb (length (st .hashes)) capacity d)
 
 -- The whole call, in the order of its tests.
 module _ (s : List ℕ) (st : IterState) (text records : List ℕ) (head : Head) where
@@ -189,9 +194,9 @@ module _ (s : List ℕ) (st : IterState) (text records : List ℕ) (head : Head)
     unfolding nilOnKeys inner
     in-good e = sym (asks-good text records head (said Nil.WrongLength st) inner (λ x. said Nil.BadResolver st) e) ∙ fitted
 
-    pub in-7 : formOf text records head ≡ Is.Good → stateGood s st ≡ false → length (st .starts) ≤ capacity → length (st .ends) ≤ capacity → (starts ends : List ℕ) → starts ≡ replicate (length (st .starts)) 0 → ends ≡ replicate (length (st .ends)) 0 → said Nil.BadState (lentState Done (st .html) (st .«check_duplicates») starts ends 0) ≡ hasNilIn s st text records head
+    pub in-7 : formOf text records head ≡ Is.Good → stateGood s st ≡ false → length (st .starts) ≤ capacity → length (st .ends) ≤ capacity → length (st .hashes) ≤ capacity → (starts ends hashes : List ℕ) → starts ≡ replicate (length (st .starts)) 0 → ends ≡ replicate (length (st .ends)) 0 → hashes ≡ replicate (length (st .hashes)) 0 → said Nil.BadState (lentState Done (st .html) (st .«check_duplicates») starts ends hashes 0) ≡ hasNilIn s st text records head
     unfolding inner
-    in-7 e g a b starts ends p q = rw (p, q, ← bad-leaves s st a b g) (sym (rw g) ∙ in-good e)
+    in-7 e g a b d starts ends hashes p q t = rw (p, q, t, ← bad-leaves s st a b d g) (sym (rw g) ∙ in-good e)
 
     pub in-search : formOf text records head ≡ Is.Good → stateGood s st ≡ true → wholeSearch (resolverOf text records head) s st ≡ hasNilIn s st text records head
     unfolding inner
@@ -200,11 +205,11 @@ module _ (s : List ℕ) (st : IterState) (text records : List ℕ) (head : Head)
         sym (same-whole text records head i s st) ∙ sym (rw g) ∙ in-good e
 
 -- Memory of full size, both the iterator's and the resolver's, is theirs.
-pub full-in : (s : List ℕ) (st : IterState) (x : NamespaceResolver) → length (st .starts) ≡ capacity → length (st .ends) ≡ capacity → length (x .text) ≡ TEXT → length (x .records) ≡ NUMBERS → hasNilIn s st (x .text) (x .records) (x .head) ≡ hasNilOf s st x
+pub full-in : (s : List ℕ) (st : IterState) (x : NamespaceResolver) → length (st .starts) ≡ capacity → length (st .ends) ≡ capacity → length (st .hashes) ≡ capacity → length (x .text) ≡ TEXT → length (x .records) ≡ NUMBERS → hasNilIn s st (x .text) (x .records) (x .head) ≡ hasNilOf s st x
 unfolding hasNilIn
-full-in s st x p q t r =
-    rw (keys-fit st (omega arith) (omega arith))
-    (full-asks (x .text) (x .records) (x .head) t r (said Nil.WrongLength st) (nilOnKeys s st) ∙ full-nil s st x (record { starts = p; ends = q }))
+full-in s st x p q h t r =
+    rw (keys-fit st (omega arith) (omega arith) (omega arith))
+    (full-asks (x .text) (x .records) (x .head) t r (said Nil.WrongLength st) (nilOnKeys s st) ∙ full-nil s st x (record { starts = p; ends = q; hashes = h }))
 
 -- A copy of lent tables in tables of full size, and back.
 
@@ -232,44 +237,46 @@ over-all t p e =
 copied-back : (t u w : List ℕ) → length t ≤ length u → w ≡ over t 0 (take (length t) u) → w ≡ take (length t) u
 copied-back t u w l e = e ∙ over-all t (take (length t) u) (length-take-le (length t) u l)
 
-module _ (x : NamespaceResolver) (s : List ℕ) (at : Standing) (S E : List ℕ) (y : Resting s (standsAt at S E)) where
-  whole-searchable : Searchable s (wholeOf (standsAt at S E))
+module _ (x : NamespaceResolver) (s : List ℕ) (at : Standing) (S E H : List ℕ) (y : Resting s (standsAt at S E H)) where
+  whole-searchable : Searchable s (wholeOf (standsAt at S E H))
   unfolding wholeOf
   whole-searchable =
-      let i = good-few s (standsAt at S E) (y .good) in
+      let i = good-few s (standsAt at S E H) (y .good) in
       record {
-        good = sym (whole-good s (standsAt at S E) (y .starts) (y .ends) (facts-hold S E (at .count) (i .placed .0) (i .placed .1))) ∙ y .good;
+        good = sym (whole-good s (standsAt at S E H) (y .starts) (y .ends) (y .hashes) (facts-hold S E H (at .count) (i .placed))) ∙ y .good;
         starts = pad-length capacity S (y .starts);
         ends = pad-length capacity E (y .ends);
+        hashes = pad-length capacity H (y .hashes);
       }
 
   -- the copy is the iterator that the lent tables are, and it can be searched
-  module _ (P Q : List ℕ) (p : P ≡ over (replicate capacity 0) 0 (take (length S) S)) (q : Q ≡ over (replicate capacity 0) 0 (take (length E) E)) where
-    whole-copy : standsAt at P Q ≡ wholeOf (standsAt at S E)
+  module _ (P Q R : List ℕ) (p : P ≡ over (replicate capacity 0) 0 (take (length S) S)) (q : Q ≡ over (replicate capacity 0) 0 (take (length E) E)) (t : R ≡ over (replicate capacity 0) 0 (take (length H) H)) where
+    whole-copy : standsAt at P Q R ≡ wholeOf (standsAt at S E H)
     unfolding wholeOf
-    whole-copy = rw (copied-in S P p, copied-in E Q q)
+    whole-copy = rw (copied-in S P p, copied-in E Q q, copied-in H R t)
 
-    pub copy-searchable : Searchable s (standsAt at P Q)
+    pub copy-searchable : Searchable s (standsAt at P Q R)
     copy-searchable = subst (λ (st : IterState). Searchable s st) (sym whole-copy) whole-searchable
 
     -- its search, and what that leaves of the copy
-    module _ (r : Left) (starts ends : List ℕ) (e : nilLeftBy at r starts ends ≡ searched x s (standsAt at P Q)) where
-      found : nilLeftBy at r starts ends ≡ searched x s (wholeOf (standsAt at S E))
+    module _ (r : Left) (starts ends hashes : List ℕ) (e : nilLeftBy at r starts ends hashes ≡ searched x s (standsAt at P Q R)) where
+      found : nilLeftBy at r starts ends hashes ≡ searched x s (wholeOf (standsAt at S E H))
       found = e ∙ ap (searched x s) whole-copy
 
-      pub left-sized : Sized (lentState (r .place) (at .html) (at .checks) starts ends (r .count))
+      pub left-sized : Sized (lentState (r .place) (at .html) (at .checks) starts ends hashes (r .count))
       unfolding searched Kept
       left-sized =
           subst (λ (h : HasNil). Sized (h .state)) (sym found)
-          (search-keeps (suc (suc (length s))) x s (wholeOf (standsAt at S E)) (record { starts = whole-searchable .starts; ends = whole-searchable .ends }) (whole-searchable .good) .0)
+          (search-keeps (suc (suc (length s))) x s (wholeOf (standsAt at S E H)) (record { starts = whole-searchable .starts; ends = whole-searchable .ends; hashes = whole-searchable .hashes }) (whole-searchable .good) .0)
 
-      pub short-more : holds S E (r .count) ≡ false → nilLeftBy at (unmovedBy Nil.LendMore at) S E ≡ wholeSearch x s (standsAt at S E)
+      pub short-more : holds S E H (r .count) ≡ false → nilLeftBy at (unmovedBy Nil.LendMore at) S E H ≡ wholeSearch x s (standsAt at S E H)
       unfolding wholeSearch heldNil
       short-more h = rw (← found, h)
 
-      pub short-held : holds S E (r .count) ≡ true → (S' E' : List ℕ) → S' ≡ over S 0 (take (length S) starts) → E' ≡ over E 0 (take (length E) ends) → nilLeftBy at r S' E' ≡ wholeSearch x s (standsAt at S E)
+      pub short-held : holds S E H (r .count) ≡ true → (S' E' H' : List ℕ) → S' ≡ over S 0 (take (length S) starts) → E' ≡ over E 0 (take (length E) ends) → H' ≡ over H 0 (take (length H) hashes) → nilLeftBy at r S' E' H' ≡ wholeSearch x s (standsAt at S E H)
       unfolding wholeSearch heldNil
-      short-held h S' E' u v =
+      short-held h S' E' H' u v w =
           let a : S' ≡ take (length S) starts = copied-back S starts S' (omega (arith, left-sized .starts, y .starts)) u in
           let b : E' ≡ take (length E) ends = copied-back E ends E' (omega (arith, left-sized .ends, y .ends)) v in
-          rw (a, b, ← found, h)
+          let d : H' ≡ take (length H) hashes = copied-back H hashes H' (omega (arith, left-sized .hashes, y .hashes)) w in
+          rw (a, b, d, ← found, h)

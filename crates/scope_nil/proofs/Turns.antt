@@ -21,6 +21,7 @@ use Rattle.tag_step.specs.declared.Start.the-variants.{From, Ended}
 use Rattle.tag_step.specs.declared.Answer.{Answer}
 use Rattle.tag_step.specs.declared.Answer.the-variants.{End, DoubleQ, SingleQ, Unquoted, Empty, ExpectedEq, ExpectedValue, UnquotedValue, ExpectedQuote, Duplicated, KeyTableFull, BadState}
 use Rattle.tag_step.specs.declared.IterState.{IterState}
+use Rattle.tag_step.specs.declared.Standing.{Standing}
 use Rattle.tag_step.specs.declared.Step.{Step}
 use Rattle.tag_parts.specs.declared.Truth.{Truth}
 use Rattle.tag_parts.specs.declared.Truth.the-variants.{Yes, No, Neither}
@@ -38,7 +39,6 @@ use Rattle.scope_table.specs.Table.{validOf}
 use Rattle.scope_table.specs.declared.NamespaceResolver.{NamespaceResolver}
 use Rattle.scope_lookup.specs.Lookup.{amongOf, uriPart}
 use Rattle.scope_nil.specs.declared.HasNil.{HasNil}
-use Rattle.scope_nil.specs.declared.Standing.{Standing}
 use Rattle.scope_nil.specs.declared.Left.{Left}
 use Rattle.scope_nil.specs.declared.Nil.the-variants as Nil
 use Rattle.scope_nil.specs.Nil.{said, nilLeftBy, isYes, instanceUri, isNil, saysNil, searchOf, searched, hasNilOf}
@@ -174,13 +174,13 @@ module _ (s : List ℕ) (st : IterState) (x : NamespaceResolver) where
     has-search r e g = rw (v, g, e)
 
 -- what 7 leaves: done, no recorded keys, and zeros
-pub left-by-7 : (s : List ℕ) (place : Place) (html checks : Bool) (starts ends starts' ends' : List ℕ) (count : ℕ) → Sized (lentState place html checks starts ends count) → stateGood s (lentState place html checks starts ends count) ≡ false → starts' ≡ replicate (length starts) 0 → ends' ≡ replicate (length ends) 0 → lentState Done html checks starts' ends' 0 ≡ nextOf s (lentState place html checks starts ends count) .state
+pub left-by-7 : (s : List ℕ) (place : Place) (html checks : Bool) (starts ends hashes starts' ends' hashes' : List ℕ) (count : ℕ) → Sized (lentState place html checks starts ends hashes count) → stateGood s (lentState place html checks starts ends hashes count) ≡ false → starts' ≡ replicate (length starts) 0 → ends' ≡ replicate (length ends) 0 → hashes' ≡ replicate (length hashes) 0 → lentState Done html checks starts' ends' hashes' 0 ≡ nextOf s (lentState place html checks starts ends hashes count) .state
 unfolding leaves badReading noKeys
-left-by-7 s place html checks starts ends starts' ends' count z g a b =
-    rw (a, b, z .starts, z .ends) (ap (λ (y : Step). y .state) (next-bad s (lentState place html checks starts ends count) g))
+left-by-7 s place html checks starts ends hashes starts' ends' hashes' count z g a b d =
+    rw (a, b, d, z .starts, z .ends, z .hashes) (ap (λ (y : Step). y .state) (next-bad s (lentState place html checks starts ends hashes count) g))
 
--- What the contract of `has_nil_in` leaves: one answer, and one content of both tables.
-pub left-one : (h : HasNil) (at : Standing) (o p : Left) (starts ends starts' ends' : List ℕ) → nilLeftBy at o starts ends ≡ h → nilLeftBy at p starts' ends' ≡ h → (o ≡ p) × (starts ≡ starts') × (ends ≡ ends')
-left-one h at o p starts ends starts' ends' a b =
-    let e : nilLeftBy at o starts ends ≡ nilLeftBy at p starts' ends' = a ∙ sym b in
-    (ap (λ (r : HasNil). record { answer = r .answer; place = r .state .place; count = r .state .count }) e, ap (λ (r : HasNil). r .state .starts) e, ap (λ (r : HasNil). r .state .ends) e)
+-- What the contract of `has_nil_in` leaves: one answer, and one content of all three tables.
+pub left-one : (h : HasNil) (at : Standing) (o p : Left) (starts ends hashes starts' ends' hashes' : List ℕ) → nilLeftBy at o starts ends hashes ≡ h → nilLeftBy at p starts' ends' hashes' ≡ h → (o ≡ p) × (starts ≡ starts') × (ends ≡ ends') × (hashes ≡ hashes')
+left-one h at o p starts ends hashes starts' ends' hashes' a b =
+    let e : nilLeftBy at o starts ends hashes ≡ nilLeftBy at p starts' ends' hashes' = a ∙ sym b in
+    (ap (λ (r : HasNil). record { answer = r .answer; place = r .state .place; count = r .state .count }) e, ap (λ (r : HasNil). r .state .starts) e, ap (λ (r : HasNil). r .state .ends) e, ap (λ (r : HasNil). r .state .hashes) e)

@@ -12,6 +12,7 @@ use Rattle.name.specs.Split.{hasColon, prefixOf, localOf}
 use Rattle.tag_keys.specs.Keys.{capacity, holds}
 use Rattle.tag_step.specs.declared.Answer.{Answer}
 use Rattle.tag_step.specs.declared.IterState.{IterState}
+use Rattle.tag_step.specs.declared.Standing.{Standing}
 use Rattle.tag_step.specs.Next.{stateGood, nextOf, lentState}
 use Rattle.tag_step.specs.Lent.{wholeOf, steppedOf}
 use Rattle.tag_step.specs.Run.{isEnd}
@@ -27,7 +28,6 @@ use Rattle.scope_lookup.specs.Lookup.{amongOf, uriPart}
 use Rattle.scope_nil.specs.declared.Nil.{Nil}
 use Rattle.scope_nil.specs.declared.Nil.the-variants.{Yes, No, BadState, BadResolver, LendMore, WrongLength}
 use Rattle.scope_nil.specs.declared.HasNil.{HasNil}
-use Rattle.scope_nil.specs.declared.Standing.{Standing}
 use Rattle.scope_nil.specs.declared.Left.{Left}
 
 -- Each answer by its number: 7 and 20 are document 01's, 98 and 99 those of lent memory. A yes and a no have none there, and are
@@ -48,12 +48,9 @@ said a st = record { answer = a; state = st }
 abbrev pub numberedNil : HasNil → ℕ × IterState
 numberedNil h = (nilNumber (h .answer), h .state)
 
--- the iterator of lent tables and what it has beside them, and what an answer leaves of it
-abbrev pub standsAt : Standing → (starts ends : List ℕ) → IterState
-standsAt at starts ends = lentState (at .place) (at .html) (at .checks) starts ends (at .count)
-
-abbrev pub nilLeftBy : Standing → Left → (starts ends : List ℕ) → HasNil
-nilLeftBy at r starts ends = said (r .answer) (lentState (r .place) (at .html) (at .checks) starts ends (r .count))
+-- what an answer leaves of the iterator of lent tables and what it has beside them
+abbrev pub nilLeftBy : Standing → Left → (starts ends hashes : List ℕ) → HasNil
+nilLeftBy at r starts ends hashes = said (r .answer) (lentState (r .place) (at .html) (at .checks) starts ends hashes (r .count))
 
 -- an answer that leaves it where it stands
 abbrev pub unmovedBy : Nil → Standing → Left
@@ -106,10 +103,10 @@ hasNilOf s st x =
 -- specs/Lent). What a search leaves of it, where the tables hold that; else LendMore, and nothing changes.
 unfoldable pub heldNil : IterState → HasNil → HasNil
 heldNil st h =
-    pick (holds (st .starts) (st .ends) (h .state .count))
+    pick (holds (st .starts) (st .ends) (st .hashes) (h .state .count))
     (said (h .answer)
     (lentState (h .state .place) (h .state .html) (h .state .«check_duplicates») (take (length (st .starts)) (h .state .starts))
-    (take (length (st .ends)) (h .state .ends)) (h .state .count)))
+    (take (length (st .ends)) (h .state .ends)) (take (length (st .hashes)) (h .state .hashes)) (h .state .count)))
     (said LendMore st)
 
 unfoldable pub wholeSearch : NamespaceResolver → (tag : List ℕ) → IterState → HasNil
@@ -122,9 +119,10 @@ nilOnKeys s st x =
     (pick (stateGood s st) (wholeSearch x s st) (said BadState (steppedOf s st)))
     (said BadResolver st)
 
--- neither table is longer than the capacity
+-- no table is longer than the capacity
 unfoldable pub keysFit : IterState → Bool
-keysFit st = leb (length (st .starts)) capacity && leb (length (st .ends)) capacity
+keysFit st =
+    leb (length (st .starts)) capacity && (leb (length (st .ends)) capacity && leb (length (st .hashes)) capacity)
 
 -- `has_nil` on lent memory, both the iterator's and the resolver's.
 unfoldable pub hasNilIn : (tag : List ℕ) → IterState → (text records : List ℕ) → Head → HasNil
@@ -136,9 +134,11 @@ pub record Searchable (s : List ℕ) (st : IterState) : Type 0 where
   pub good : stateGood s st ≡ true
   pub starts : length (st .starts) ≡ capacity
   pub ends : length (st .ends) ≡ capacity
+  pub hashes : length (st .hashes) ≡ capacity
 
 -- And on tables of any length up to the capacity.
 pub record Resting (s : List ℕ) (st : IterState) : Type 0 where
   pub good : stateGood s st ≡ true
   pub starts : length (st .starts) ≤ capacity
   pub ends : length (st .ends) ≤ capacity
+  pub hashes : length (st .hashes) ≤ capacity

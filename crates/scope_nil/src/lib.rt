@@ -9,10 +9,12 @@ use scope_table::Form;
 use scope_table::Head;
 use scope_table::NamespaceResolver;
 use tag_keys::CAPACITY;
+use tag_keys::SIEVE_WORDS;
 use tag_parts::Truth;
 use tag_step::Answer;
 use tag_step::IterState;
 use tag_step::Place;
+use tag_step::Standing;
 use tag_step::Stepped;
 ghost use mathlib.Core.Path.{_≡_};
 ghost use Prim.Native.Nat.{_≤_};
@@ -20,7 +22,8 @@ ghost use lib.ListN.{length, take};
 ghost use Rattle.scan.specs.Lists.{over};
 ghost use Rattle.scope_table.specs.Table.{resolverOf};
 ghost use Rattle.scope_lookup.specs.Inside.{Inside};
-ghost use Rattle.scope_nil.specs.Nil.{nilNumber, numberedNil, isNil, searched, wholeSearch, hasNilOf, hasNilIn, standsAt, nilLeftBy, unmovedBy, Searchable, Resting};
+ghost use Rattle.tag_step.specs.Next.{standsAt};
+ghost use Rattle.scope_nil.specs.Nil.{nilNumber, numberedNil, isNil, searched, wholeSearch, hasNilOf, hasNilIn, nilLeftBy, unmovedBy, Searchable, Resting};
 
 // Whether a tag has a `nil` that is true: the crate's bool, and the refusals of what it is asked with.
 pub enum Nil {
@@ -60,15 +63,6 @@ pub struct HasNil {
     pub state: IterState,
 }
 
-// What an iterator has beside its key tables.
-pub struct Standing {
-    pub place: Place,
-    pub html: bool,
-    pub checks: bool,
-    // how many keys are recorded
-    pub count: usize,
-}
-
 // The answer, and what it leaves beside lent tables. Mode and checks stay.
 pub struct Left {
     pub answer: Nil,
@@ -106,21 +100,30 @@ fn search<'k, 't>(
     tag: &[u8],
     starts: &'k mut [usize],
     ends: &'k mut [usize],
+    hashes: &'k mut [u32],
     at: Standing,
     text: &'t [u8],
     records: &'t [usize],
     head: Head,
 ) -> Left
-    requires { ⌜ Searchable (now tag) (standsAt at (now starts) (now ends)) × Inside (now records) (head .count) (length (now text)) ⌝ }
-    ensures { λ r. ⌜ nilLeftBy at r (now (starts .exit)) (now (ends .exit))
-        ≡ searched (resolverOf (now (text .entry)) (now (records .entry)) head) (now (tag .entry)) (standsAt at (now (starts .entry)) (now (ends .entry))) ⌝ }
+    requires { ⌜ Searchable (now tag) (standsAt at (now starts) (now ends) (now hashes)) × Inside (now records) (head .count) (length (now text)) ⌝ }
+    ensures { λ r. ⌜ nilLeftBy at r (now (starts .exit)) (now (ends .exit)) (now (hashes .exit))
+        ≡ searched (resolverOf (now (text .entry)) (now (records .entry)) head) (now (tag .entry)) (standsAt at (now (starts .entry)) (now (ends .entry)) (now (hashes .entry))) ⌝ }
 {
     let html = at.html;
     let checks = at.checks;
     let mut stand = at.place;
     let mut recorded = at.count;
+    let mut sieve = [0u64; SIEVE_WORDS];
+    tag_keys::sieve_kept(&mut sieve, hashes, recorded);
     loop {
-        let step = tag_step::step_in(tag, starts, ends, html, checks, recorded, stand);
+        let here = Standing {
+            place: stand,
+            html: html,
+            checks: checks,
+            count: recorded,
+        };
+        let step = tag_step::step_in(tag, starts, ends, hashes, &mut sieve, here);
         // Tables of full size have a place for every key: the other case never comes.
         let Stepped::Made(made) = step else {
             return Left {
@@ -163,34 +166,60 @@ fn copy(to: &mut [usize], from: &[usize], n: usize)
     }
 }
 
+// The same of a table of hashes.
+fn copy_hashes(to: &mut [u32], from: &[u32], n: usize)
+    requires { ⌜ (n ≤ length (now from)) × (n ≤ length (now to)) ⌝ }
+    ensures { λ _. ⌜ now (to .exit) ≡ over (now (to .entry)) 0 (take n (now (from .entry))) ⌝ }
+{
+    let mut i = 0;
+    while i < n {
+        to[i] = from[i];
+        i += 1;
+    }
+}
+
 // The same search on tables that may be shorter. It reads into tables of its own, which have room for every key, so that
 // nothing has changed where the lent ones do not hold what it leaves.
 fn search_short<'k, 't>(
     tag: &[u8],
     starts: &'k mut [usize],
     ends: &'k mut [usize],
+    hashes: &'k mut [u32],
     at: Standing,
     text: &'t [u8],
     records: &'t [usize],
     head: Head,
 ) -> Left
-    requires { ⌜ Resting (now tag) (standsAt at (now starts) (now ends)) × Inside (now records) (head .count) (length (now text)) ⌝ }
-    ensures { λ r. ⌜ nilLeftBy at r (now (starts .exit)) (now (ends .exit))
-        ≡ wholeSearch (resolverOf (now (text .entry)) (now (records .entry)) head) (now (tag .entry)) (standsAt at (now (starts .entry)) (now (ends .entry))) ⌝ }
+    requires { ⌜ Resting (now tag) (standsAt at (now starts) (now ends) (now hashes)) × Inside (now records) (head .count) (length (now text)) ⌝ }
+    ensures { λ r. ⌜ nilLeftBy at r (now (starts .exit)) (now (ends .exit)) (now (hashes .exit))
+        ≡ wholeSearch (resolverOf (now (text .entry)) (now (records .entry)) head) (now (tag .entry)) (standsAt at (now (starts .entry)) (now (ends .entry)) (now (hashes .entry))) ⌝ }
 {
     let n = starts.len();
     let m = ends.len();
+    let l = hashes.len();
     let mut all_starts = [0usize; CAPACITY];
     let mut all_ends = [0usize; CAPACITY];
+    let mut all_hashes = [0u32; CAPACITY];
     copy(&mut all_starts, starts, n);
     copy(&mut all_ends, ends, m);
-    let found = search(tag, &mut all_starts, &mut all_ends, at, text, records, head);
+    copy_hashes(&mut all_hashes, hashes, l);
+    let found = search(
+        tag,
+        &mut all_starts,
+        &mut all_ends,
+        &mut all_hashes,
+        at,
+        text,
+        records,
+        head,
+    );
     let count = found.count;
-    if !tag_keys::holds(starts, ends, count) {
+    if !tag_keys::holds(starts, ends, hashes, count) {
         return unmoved(Nil::LendMore, at);
     }
     copy(starts, &all_starts, n);
     copy(ends, &all_ends, m);
+    copy_hashes(hashes, &all_hashes, l);
     found
 }
 
@@ -211,18 +240,22 @@ pub fn has_nil_in<'k, 't>(
     tag: &[u8],
     starts: &'k mut [usize],
     ends: &'k mut [usize],
+    hashes: &'k mut [u32],
     at: Standing,
     text: &'t [u8],
     records: &'t [usize],
     head: Head,
 ) -> Left
-    ensures { λ r. ⌜ nilLeftBy at r (now (starts .exit)) (now (ends .exit))
-        ≡ hasNilIn (now (tag .entry)) (standsAt at (now (starts .entry)) (now (ends .entry))) (now (text .entry)) (now (records .entry)) head ⌝ }
+    ensures { λ r. ⌜ nilLeftBy at r (now (starts .exit)) (now (ends .exit)) (now (hashes .exit))
+        ≡ hasNilIn (now (tag .entry)) (standsAt at (now (starts .entry)) (now (ends .entry)) (now (hashes .entry))) (now (text .entry)) (now (records .entry)) head ⌝ }
 {
     if CAPACITY < starts.len() {
         return unmoved(Nil::WrongLength, at);
     }
     if CAPACITY < ends.len() {
+        return unmoved(Nil::WrongLength, at);
+    }
+    if CAPACITY < hashes.len() {
         return unmoved(Nil::WrongLength, at);
     }
     let form = scope_table::form_in(text, records, head);
@@ -233,9 +266,8 @@ pub fn has_nil_in<'k, 't>(
     }
     let place = at.place;
     let count = at.count;
-    if !tag_step::good_in(tag, starts, ends, count, place) {
-        tag_step::clear(starts);
-        tag_step::clear(ends);
+    if !tag_step::good_in(tag, starts, ends, hashes, count, place) {
+        tag_step::clear_keys(starts, ends, hashes);
         return Left {
             answer: Nil::BadState,
             place: Place::Done,
@@ -244,10 +276,12 @@ pub fn has_nil_in<'k, 't>(
     }
     if starts.len() == CAPACITY {
         if ends.len() == CAPACITY {
-            return search(tag, starts, ends, at, text, records, head);
+            if hashes.len() == CAPACITY {
+                return search(tag, starts, ends, hashes, at, text, records, head);
+            }
         }
     }
-    search_short(tag, starts, ends, at, text, records, head)
+    search_short(tag, starts, ends, hashes, at, text, records, head)
 }
 
 // `Attributes::has_nil`, src/events/attributes.rs: whether an attribute from here on says that the element is nil.
@@ -258,6 +292,7 @@ pub fn has_nil(state: IterState, tag: &[u8], resolver: NamespaceResolver) -> Has
     let checks = state.check_duplicates;
     let mut starts = state.starts;
     let mut ends = state.ends;
+    let mut hashes = state.hashes;
     let count = state.count;
     let place = state.place;
     let at = Standing {
@@ -271,6 +306,7 @@ pub fn has_nil(state: IterState, tag: &[u8], resolver: NamespaceResolver) -> Has
         tag,
         &mut starts,
         &mut ends,
+        &mut hashes,
         at,
         &resolver.text,
         &resolver.records,
@@ -286,6 +322,7 @@ pub fn has_nil(state: IterState, tag: &[u8], resolver: NamespaceResolver) -> Has
             check_duplicates: checks,
             starts: starts,
             ends: ends,
+            hashes: hashes,
             count: out.count,
         },
     }

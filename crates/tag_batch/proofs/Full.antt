@@ -68,7 +68,7 @@ full-never (suc n) s st z e =
 
 -- So a batch on such tables is the run's.
 pub full-batch : (s : List ℕ) (st : IterState) (out : List ℕ) → Sized st →
-    batchOf s st out ≡ batched (Read (length (runOf (answersRoom out) s st)) (leftOf (answersRoom out) s st .place) (leftOf (answersRoom out) s st .count) (ranOf (answersRoom out) s st .why)) (leftOf (answersRoom out) s st .starts) (leftOf (answersRoom out) s st .ends) (over out 0 (fivesOf (runOf (answersRoom out) s st)))
+    batchOf s st out ≡ batched (Read (length (runOf (answersRoom out) s st)) (leftOf (answersRoom out) s st .place) (leftOf (answersRoom out) s st .count) (ranOf (answersRoom out) s st .why)) (leftOf (answersRoom out) s st .starts) (leftOf (answersRoom out) s st .ends) (leftOf (answersRoom out) s st .hashes) (over out 0 (fivesOf (runOf (answersRoom out) s st)))
 unfolding batchOf tablesLent readOf batchShown
 full-batch s st out z =
-    rw (le-leb (length (st .starts)) capacity (omega (arith, z .starts)), le-leb (length (st .ends)) capacity (omega (arith, z .ends)), full-answers (answersRoom out) s st z, full-state (answersRoom out) s st z)
+    rw (le-leb (length (st .starts)) capacity (omega (arith, z .starts)), le-leb (length (st .ends)) capacity (omega (arith, z .ends)), le-leb (length (st .hashes)) capacity (omega (arith, z .hashes)), full-answers (answersRoom out) s st z, full-state (answersRoom out) s st z)

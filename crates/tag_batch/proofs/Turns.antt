@@ -20,8 +20,10 @@ use Rattle.tag_step.specs.declared.Advance.{Advance}
 use Rattle.tag_step.specs.declared.Stepped.{Stepped}
 use Rattle.tag_step.specs.declared.Stepped.the-variants as Stop
 use Rattle.tag_step.specs.Next.{keysLent, stepOf, lentState}
-use Rattle.tag_step.specs.Lent.{wholeNext, needsMore, steppedOf, taken, takenOn}
-use Rattle.tag_step.proofs.Lent.{made-held, made-answer, made-leaves, made-good, made-starts, made-ends, more-needs, more-starts, more-ends}
+use Rattle.tag_keys.specs.Sieve.{SieveOf, sieveLeft}
+use Rattle.tag_keys.proofs.Sieve.{sieve-goes-on}
+use Rattle.tag_step.specs.Lent.{wholeNext, needsMore, steppedOf, taken, keptIn, takenOn}
+use Rattle.tag_step.proofs.Lent.{made-held, made-answer, made-leaves, made-good, made-starts, made-ends, made-hashes, more-needs, more-starts, more-ends, more-hashes}
 use Rattle.tag_batch.specs.declared.Five.{Five}
 use Rattle.tag_batch.specs.declared.Batch.the-variants.{Read}
 use Rattle.tag_batch.specs.declared.Why.{Why}
@@ -70,10 +72,10 @@ code-other a x e z = end-code a ∙ ap (λ (l : List ℕ). eqb (getD l 0 0) 0) (
 -- n answers stand at the front already, and these follow
 abbrev pub shownFrom : ℕ → List ℕ → Ran → Batched
 shownFrom n out x =
-    batched (Read (n + length (x .answers)) (x .state .place) (x .state .count) (x .why)) (x .state .starts) (x .state .ends)
+    batched (Read (n + length (x .answers)) (x .state .place) (x .state .count) (x .why)) (x .state .starts) (x .state .ends) (x .state .hashes)
     (over out (5 * n) (fivesOf (x .answers)))
 
-shown-none : (n : ℕ) (out : List ℕ) (st : IterState) (why : Why) → shownFrom n out (ran [] st why) ≡ batched (Read n (st .place) (st .count) why) (st .starts) (st .ends) out
+shown-none : (n : ℕ) (out : List ℕ) (st : IterState) (why : Why) → shownFrom n out (ran [] st why) ≡ batched (Read n (st .place) (st .count) why) (st .starts) (st .ends) (st .hashes) out
 unfolding fivesOf
 shown-none n out st why =
     let e : n + 0 ≡ n = omega arith in
@@ -141,12 +143,12 @@ module _ (s : List ℕ) (first : IterState) (whole : List ℕ) (n : ℕ) (st : I
     went x e = t .same ∙ rw (more, e)
 
     -- a key has no place: nothing is written, and this state is left
-    pub turn-short : needsMore s st ≡ true → batched (Read n (st .place) (st .count) LendMore) (st .starts) (st .ends) out ≡ readOf s first whole
+    pub turn-short : needsMore s st ≡ true → batched (Read n (st .place) (st .count) LendMore) (st .starts) (st .ends) (st .hashes) out ≡ readOf s first whole
     turn-short h = sym (went (ran [] st LendMore) (ran-more s st (answersRoom whole - (n + 1)) h) ∙ shown-none n out st LendMore)
 
     module _ (held : needsMore s st ≡ false) (a : Answer) (after : IterState) (answer : wholeNext s st .answer ≡ a) (leaves : steppedOf s st ≡ after) where
       -- the end: nothing is written, and the next state is left
-      pub turn-ends : isEnd a ≡ true → batched (Read n (after .place) (after .count) AtEnd) (after .starts) (after .ends) out ≡ readOf s first whole
+      pub turn-ends : isEnd a ≡ true → batched (Read n (after .place) (after .count) AtEnd) (after .starts) (after .ends) (after .hashes) out ≡ readOf s first whole
       turn-ends h = sym (went (ran [] after AtEnd) (ran-end s st (answersRoom whole - (n + 1)) held a after answer leaves h) ∙ shown-none n out after AtEnd)
 
       -- an answer: it is written, and the loop goes on
@@ -161,52 +163,61 @@ module _ (s : List ℕ) (first : IterState) (whole : List ℕ) (n : ℕ) (st : I
           }
 
   -- the output is full
-  pub turn-full : length out < 5 * n + 5 → batched (Read n (st .place) (st .count) OutFull) (st .starts) (st .ends) out ≡ readOf s first whole
+  pub turn-full : length out < 5 * n + 5 → batched (Read n (st .place) (st .count) OutFull) (st .starts) (st .ends) (st .hashes) out ≡ readOf s first whole
   unfolding ranOf
   turn-full h =
       let z = room-none whole n (omega (arith, t .size)) (t .fits) in
       sym (t .same ∙ rw z (shown-none n out st OutFull))
 
 -- The same of what `step_in` has done.
-module _ (s : List ℕ) (first : IterState) (whole : List ℕ) (n : ℕ) (place : Place) (html checks : Bool) (starts ends : List ℕ) (count : ℕ) (out : List ℕ)
-    (t : Turn s first whole n (lentState place html checks starts ends count) out) (room : 5 * n + 5 ≤ length out)
-    (r : Stepped) (starts' ends' : List ℕ) (e : taken r starts' ends' count ≡ takenOn (keysLent starts ends count) (stepOf s html checks (keysLent starts ends count) place)) where
+module _ (s : List ℕ) (first : IterState) (whole : List ℕ) (n : ℕ) (place : Place) (html checks : Bool) (starts ends hashes : List ℕ) (count : ℕ) (out : List ℕ)
+    (t : Turn s first whole n (lentState place html checks starts ends hashes count) out) (room : 5 * n + 5 ≤ length out)
+    (r : Stepped) (starts' ends' hashes' : List ℕ) (e : taken r starts' ends' hashes' count ≡ takenOn (keysLent starts ends hashes count) (stepOf s html checks (keysLent starts ends hashes count) place)) where
   abbrev st : IterState
-  st = lentState place html checks starts ends count
+  st = lentState place html checks starts ends hashes count
 
-  pub goes-short : r ≡ Stop.LendMore → batched (Read n place count LendMore) starts' ends' out ≡ readOf s first whole
+  pub goes-short : r ≡ Stop.LendMore → batched (Read n place count LendMore) starts' ends' hashes' out ≡ readOf s first whole
   goes-short m =
       let p = t .ripe in
-      rw (more-starts s place html checks starts ends count (p .starts) (p .ends) (p .good) r starts' ends' e m, more-ends s place html checks starts ends count (p .starts) (p .ends) (p .good) r starts' ends' e m)
-      (turn-short s first whole n st out t room (more-needs s place html checks starts ends count (p .starts) (p .ends) (p .good) r starts' ends' e m))
+      rw (more-hashes s place html checks starts ends hashes count (p .starts) (p .ends) (p .hashes) (p .good) r starts' ends' hashes' e m, more-starts s place html checks starts ends hashes count (p .starts) (p .ends) (p .hashes) (p .good) r starts' ends' hashes' e m, more-ends s place html checks starts ends hashes count (p .starts) (p .ends) (p .hashes) (p .good) r starts' ends' hashes' e m)
+      (turn-short s first whole n st out t room (more-needs s place html checks starts ends hashes count (p .starts) (p .ends) (p .hashes) (p .good) r starts' ends' hashes' e m))
 
   module _ (o : Advance) (m : r ≡ Stop.Made o) where
     abbrev after : IterState
-    after = lentState (o .place) html checks starts' ends' (o .count)
+    after = lentState (o .place) html checks starts' ends' hashes' (o .count)
 
     held : needsMore s st ≡ false
-    held = made-held s place html checks starts ends count (t .ripe .starts) (t .ripe .ends) (t .ripe .good) r starts' ends' e o m
+    held = made-held s place html checks starts ends hashes count (t .ripe .starts) (t .ripe .ends) (t .ripe .hashes) (t .ripe .good) r starts' ends' hashes' e o m
 
     answer : wholeNext s st .answer ≡ o .answer
-    answer = made-answer s place html checks starts ends count (t .ripe .starts) (t .ripe .ends) (t .ripe .good) r starts' ends' e o m
+    answer = made-answer s place html checks starts ends hashes count (t .ripe .starts) (t .ripe .ends) (t .ripe .hashes) (t .ripe .good) r starts' ends' hashes' e o m
 
     leaves : steppedOf s st ≡ after
-    leaves = made-leaves s place html checks starts ends count (t .ripe .starts) (t .ripe .ends) (t .ripe .good) r starts' ends' e o m
+    leaves = made-leaves s place html checks starts ends hashes count (t .ripe .starts) (t .ripe .ends) (t .ripe .hashes) (t .ripe .good) r starts' ends' hashes' e o m
 
     pub after-starts : length starts' ≡ length starts
-    after-starts = made-starts s place html checks starts ends count (t .ripe .starts) (t .ripe .ends) (t .ripe .good) r starts' ends' e o m
+    after-starts = made-starts s place html checks starts ends hashes count (t .ripe .starts) (t .ripe .ends) (t .ripe .hashes) (t .ripe .good) r starts' ends' hashes' e o m
 
     pub after-ends : length ends' ≡ length ends
-    after-ends = made-ends s place html checks starts ends count (t .ripe .starts) (t .ripe .ends) (t .ripe .good) r starts' ends' e o m
+    after-ends = made-ends s place html checks starts ends hashes count (t .ripe .starts) (t .ripe .ends) (t .ripe .hashes) (t .ripe .good) r starts' ends' hashes' e o m
 
-    pub goes-end : isEnd (o .answer) ≡ true → batched (Read n (o .place) (o .count) AtEnd) starts' ends' out ≡ readOf s first whole
+    pub after-hashes : length hashes' ≡ length hashes
+    after-hashes = made-hashes s place html checks starts ends hashes count (t .ripe .starts) (t .ripe .ends) (t .ripe .hashes) (t .ripe .good) r starts' ends' hashes' e o m
+
+    pub goes-end : isEnd (o .answer) ≡ true → batched (Read n (o .place) (o .count) AtEnd) starts' ends' hashes' out ≡ readOf s first whole
     goes-end h = turn-ends s first whole n st out t room held (o .answer) after answer leaves h
 
     pub goes-on : isEnd (o .answer) ≡ false → Turn s first whole (n + 1) after (over out (5 * n) (fiveOf (o .answer)))
     goes-on h =
         turn-next s first whole n st out t room held (o .answer) after answer leaves h
         (record {
-          good = made-good s place html checks starts ends count (t .ripe .starts) (t .ripe .ends) (t .ripe .good) r starts' ends' e o m;
+          good = made-good s place html checks starts ends hashes count (t .ripe .starts) (t .ripe .ends) (t .ripe .hashes) (t .ripe .good) r starts' ends' hashes' e o m;
           starts = omega (arith, after-starts, t .ripe .starts);
           ends = omega (arith, after-ends, t .ripe .ends);
+          hashes = omega (arith, after-hashes, t .ripe .hashes);
         })
+
+-- the sieve that a step leaves is that of the hashes that are kept then
+pub goes-sieve : (checks : Bool) (sieve hashes sieve' : List ℕ) (count : ℕ) (r : Stepped) → sieve' ≡ sieveLeft checks sieve hashes (keptIn r count) → (o : Advance) → r ≡ Stop.Made o → SieveOf checks sieve' hashes (o .count)
+goes-sieve checks sieve hashes sieve' count r e o m =
+    sieve-goes-on checks sieve hashes sieve' (o .count) (e ∙ ap (λ (x : Stepped). sieveLeft checks sieve hashes (keptIn x count)) m)

@@ -69,7 +69,8 @@ ranOf (suc n) s st =
 
 -- tables that are no longer than the capacity; others are no tables of an iterator, and nothing is read with them
 unfoldable pub tablesLent : IterState → Bool
-tablesLent st = leb (length (st .starts)) capacity && leb (length (st .ends)) capacity
+tablesLent st =
+    leb (length (st .starts)) capacity && (leb (length (st .ends)) capacity && leb (length (st .hashes)) capacity)
 
 -- how many answers an output holds
 unfoldable pub answersRoom : List ℕ → ℕ
@@ -80,25 +81,27 @@ pub record Batched : Type 0 where
   pub batch : Batch
   pub starts : List ℕ
   pub ends : List ℕ
+  pub hashes : List ℕ
   pub out : List ℕ
 
-abbrev pub batched : Batch → (starts ends out : List ℕ) → Batched
-batched b starts ends out = record { batch = b; starts = starts; ends = ends; out = out }
+abbrev pub batched : Batch → (starts ends hashes out : List ℕ) → Batched
+batched b starts ends hashes out = record { batch = b; starts = starts; ends = ends; hashes = hashes; out = out }
 
 -- how many answers there are, and the place and the count that are left; what stands behind the last answer stays as it was
 unfoldable pub batchShown : List ℕ → Ran → Batched
 batchShown out x =
-    batched (Read (length (x .answers)) (x .state .place) (x .state .count) (x .why)) (x .state .starts) (x .state .ends)
+    batched (Read (length (x .answers)) (x .state .place) (x .state .count) (x .why)) (x .state .starts) (x .state .ends) (x .state .hashes)
     (over out 0 (fivesOf (x .answers)))
 
 unfoldable pub readOf : List ℕ → IterState → List ℕ → Batched
 readOf s st out = batchShown out (ranOf (answersRoom out) s st)
 
 unfoldable pub batchOf : List ℕ → IterState → List ℕ → Batched
-batchOf s st out = pick (tablesLent st) (readOf s st out) (batched WrongTables (st .starts) (st .ends) out)
+batchOf s st out = pick (tablesLent st) (readOf s st out) (batched WrongTables (st .starts) (st .ends) (st .hashes) out)
 
 -- a state from which steps may be taken on lent tables: 7 does not answer it, and they are no longer than the capacity
 pub record Ripe (s : List ℕ) (st : IterState) : Type 0 where
   pub good : stateGood s st ≡ true
   pub starts : length (st .starts) ≤ capacity
   pub ends : length (st .ends) ≤ capacity
+  pub hashes : length (st .hashes) ≤ capacity

@@ -10,12 +10,14 @@ ghost use lib.ListN.{length};
 ghost use lib.Dec.{ltb};
 ghost use Rattle.scan.specs.First.{pick};
 ghost use Rattle.scan.specs.Lists.{over};
-ghost use Rattle.tag_step.specs.Next.{lentState};
+ghost use Rattle.tag_keys.specs.Sieve.{SieveOf};
+ghost use Rattle.tag_step.specs.Next.{standsAt};
 ghost use Rattle.tag_batch.specs.Batch.{whyNumber, listed, fiveOf, Ripe, batched, readOf, batchOf};
 ghost use Rattle.tag_batch.specs.declared.Why.the-variants.{OutFull, AtEnd};
 use tag_step::Answer;
 use tag_step::Place;
 use tag_step::Span;
+use tag_step::Standing;
 use tag_step::Stepped;
 
 // Why a batch has no more answers.
@@ -111,28 +113,36 @@ fn put(out: &mut [usize], at: usize, x: Five)
 }
 
 // The batch of a state that is good: a step for each answer that there is room for, up to the end, or to a key that has no
-// place.
+// place. While checks are on the sieve is that of the kept hashes.
 fn read_good<'a>(
     tag: &[u8],
     starts: &'a mut [usize],
     ends: &'a mut [usize],
-    html: bool,
-    checks: bool,
-    count: usize,
-    place: Place,
+    hashes: &'a mut [u32],
+    sieve: &'a mut [u64],
+    at: Standing,
     out: &mut [usize],
 ) -> Batch
-    requires { ⌜ Ripe (now tag) (lentState place html checks (now starts) (now ends) count) ⌝ }
+    requires { ⌜ Ripe (now tag) (standsAt at (now starts) (now ends) (now hashes)) ⌝ }
+    requires { ⌜ SieveOf (at .checks) (now sieve) (now hashes) (at .count) ⌝ }
     ensures { λ r.
-        ⌜ batched r (now (starts .exit)) (now (ends .exit)) (now (out .exit))
-        ≡ readOf (now (tag .entry)) (lentState place html checks (now (starts .entry)) (now (ends .entry)) count) (now (out .entry)) ⌝ }
+        ⌜ batched r (now (starts .exit)) (now (ends .exit)) (now (hashes .exit)) (now (out .exit))
+        ≡ readOf (now (tag .entry)) (standsAt at (now (starts .entry)) (now (ends .entry)) (now (hashes .entry))) (now (out .entry)) ⌝ }
 {
-    let mut stand = place;
-    let mut recorded = count;
+    let html = at.html;
+    let checks = at.checks;
+    let mut stand = at.place;
+    let mut recorded = at.count;
     let mut n = 0;
-    let mut at = 0;
-    while out.len() - at >= 5 {
-        let step = tag_step::step_in(tag, starts, ends, html, checks, recorded, stand);
+    let mut end = 0;
+    while out.len() - end >= 5 {
+        let here = Standing {
+            place: stand,
+            html: html,
+            checks: checks,
+            count: recorded,
+        };
+        let step = tag_step::step_in(tag, starts, ends, hashes, sieve, here);
         let Stepped::Made(made) = step else {
             return Batch::Read(n, stand, recorded, Why::LendMore);
         };
@@ -143,8 +153,8 @@ fn read_good<'a>(
         if x.code == 0 {
             return Batch::Read(n, stand, recorded, Why::AtEnd);
         }
-        put(out, at, x);
-        at += 5;
+        put(out, end, x);
+        end += 5;
         n += 1;
     }
     Batch::Read(n, stand, recorded, Why::OutFull)
@@ -167,30 +177,34 @@ pub fn read_batch<'a>(
     tag: &[u8],
     starts: &'a mut [usize],
     ends: &'a mut [usize],
-    html: bool,
-    checks: bool,
-    count: usize,
-    place: Place,
+    hashes: &'a mut [u32],
+    at: Standing,
     out: &mut [usize],
 ) -> Batch
     ensures { λ r.
-        ⌜ batched r (now (starts .exit)) (now (ends .exit)) (now (out .exit))
-        ≡ batchOf (now (tag .entry)) (lentState place html checks (now (starts .entry)) (now (ends .entry)) count) (now (out .entry)) ⌝ }
+        ⌜ batched r (now (starts .exit)) (now (ends .exit)) (now (hashes .exit)) (now (out .exit))
+        ≡ batchOf (now (tag .entry)) (standsAt at (now (starts .entry)) (now (ends .entry)) (now (hashes .entry))) (now (out .entry)) ⌝ }
 {
+    let place = at.place;
+    let count = at.count;
     if starts.len() > tag_keys::CAPACITY {
         return Batch::WrongTables;
     }
     if ends.len() > tag_keys::CAPACITY {
         return Batch::WrongTables;
     }
+    if hashes.len() > tag_keys::CAPACITY {
+        return Batch::WrongTables;
+    }
     if out.len() < 5 {
         return Batch::Read(0, place, count, Why::OutFull);
     }
-    if !tag_step::good_in(tag, starts, ends, count, place) {
-        tag_step::clear(starts);
-        tag_step::clear(ends);
+    if !tag_step::good_in(tag, starts, ends, hashes, count, place) {
+        tag_step::clear_keys(starts, ends, hashes);
         put(out, 0, numbers(Answer::BadState));
         return Batch::Read(1, Place::Done, 0, after_seven(out.len()));
     }
-    read_good(tag, starts, ends, html, checks, count, place, out)
+    let mut sieve = [0u64; tag_keys::SIEVE_WORDS];
+    tag_keys::sieve_kept(&mut sieve, hashes, count);
+    read_good(tag, starts, ends, hashes, &mut sieve, at, out)
 }

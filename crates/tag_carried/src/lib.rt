@@ -2,7 +2,7 @@
 //
 // Ports `Attributes` of src/events/attributes.rs: `wrap`, `new`, `html`, `with_checks`, and `next` of its `Iterator`; with `key`
 // and `value`, which hand out what `Attribute` holds. The work is the plain iterator's, in the crate `tag_step`, and that of
-// the crate `tag_parts`: each function here takes the struct apart and calls it. A state goes there and back by value, 4 KB
+// the crate `tag_parts`: each function here takes the struct apart and calls it. A state goes there and back by value, 20 KB
 // each way: whoever reads whole tags calls the crate `tag_batch`.
 //
 // No function over a struct that holds a reference is proved by itself: each one here has a walk of its code under proofs/.

@@ -9,18 +9,19 @@ use native.Mathlib.Nat.{le-of-lt, eq-or-lt-of-le}
 use native.Mathlib.Omega.{arith}
 use lib.ListN.{length, getD, set, take, drop, length-set}
 use lib.Seq.{getD-set-same, getD-set-other, ext-getD}
-use lib.Dec.{ltb, leb}
-use borrow.Author.Tests.{eq-eqb, ne-eqb, lt-ltb, le-ltb, ltb-true, ltb-false, le-leb, lt-leb, leb-true, not-false}
+use lib.Dec.{eqb, ltb, leb}
+use borrow.Author.Tests.{eq-eqb, ne-eqb, eqb-true, lt-ltb, le-ltb, ltb-true, ltb-false, le-leb, lt-leb, leb-true, not-false}
 use Rattle.scan.specs.First.{firstTo, pick}
-use Rattle.scan.specs.Bytes.{part, isByte, sameBytes}
-use Rattle.scan.proofs.Laws.{IsFirst, to-hit, to-past, to-first, to-skip, first-only}
+use Rattle.scan.specs.Bytes.{part, sameBytes}
+use Rattle.scan.proofs.Laws.{IsFirst, to-hit, to-past, to-first, first-only}
 use Rattle.scan.proofs.Bytes.{both, same-refl, same-eq, same-ne}
-use Rattle.scan.proofs.Lists.{part-length, part-at}
+use Rattle.scan.proofs.Lists.{part-length, part-at, part-same}
 use Rattle.tag_keys.specs.declared.Earlier.{Earlier}
 use Rattle.tag_keys.specs.declared.Earlier.the-variants.{At, Nothing}
 use Rattle.tag_keys.specs.declared.Checked.{Checked}
 use Rattle.tag_keys.specs.declared.Checked.the-variants.{Fresh, Same, Full}
-use Rattle.tag_keys.specs.Keys.{capacity, keyGood, keyBad, holds, countGood, tableGood, KeysIn, EndsIn, KeyRoom, hasPlace, nameAt, lastIs, sameKey, oldestOf, earlierOf, checkedBy, checkedOf, writtenBy, countBy}
+use Rattle.tag_keys.specs.Hash.{hashOf}
+use Rattle.tag_keys.specs.Keys.{capacity, nameAt, keyGood, hashIs, keyBad, holds, countGood, tableGood, KeysIn, KeyRoom, hasPlace, hashFor, sameKey, oldestOf, earlierOf, checkedBy, checkedOf, writtenBy, countBy}
 
 -- Two parts of a tag
 
@@ -45,45 +46,33 @@ module _ (s : List ℕ) (a e b f : ℕ) (ha : a ≤ e) (he : e ≤ length s) (hb
       same-ne (part s a e) (part s b f)
       (λ eq. other (sym (part-at s a e i (omega arith)) ∙ ap (λ (l : List ℕ). getD l i 0) eq ∙ part-at s b f i h))
 
-  -- with a last byte that differs, whatever their lengths
-  pub unlike-last : a < e → (getD s (e - 1) 0 ≡ getD s (f - 1) 0 → ⊥) → sameBytes (part s a e) (part s b f) ≡ false
-  unlike-last some other =
-      same-ne (part s a e) (part s b f)
-      (λ eq.
-      let n : e - a ≡ f - b = sym (part-length s a e ha he) ∙ ap length eq ∙ part-length s b f hb hf in
-      let x : a + (f - b - 1) ≡ e - 1 = omega arith in
-      let y : b + (f - b - 1) ≡ f - 1 = omega arith in
-      let here = sym (part-at s a e (f - b - 1) (omega arith)) ∙ ap (λ (l : List ℕ). getD l (f - b - 1) 0) eq ∙ part-at s b f (f - b - 1) (omega arith) in
-      other (ap (λ (i : ℕ). getD s i 0) (sym x) ∙ here ∙ ap (λ (i : ℕ). getD s i 0) y))
+-- the test of a kept hash
+module _ (hashes : List ℕ) (h k : ℕ) where
+  pub hash-same : getD hashes k 0 ≡ h → hashIs hashes h k ≡ true
+  unfolding hashIs
+  hash-same e = eq-eqb (getD hashes k 0) h e
 
--- the test of a recorded key's last byte
-module _ (tag ends : List ℕ) (b k : ℕ) where
-  pub last-same : getD tag (getD ends k 0 - 1) 0 ≡ b → lastIs tag ends b k ≡ true
-  unfolding lastIs isByte
-  last-same h = eq-eqb (getD tag (getD ends k 0 - 1) 0) b h
+  pub hash-other : (getD hashes k 0 ≡ h → ⊥) → hashIs hashes h k ≡ false
+  unfolding hashIs
+  hash-other n = ne-eqb (getD hashes k 0) h n
 
-  pub last-other : (getD tag (getD ends k 0 - 1) 0 ≡ b → ⊥) → lastIs tag ends b k ≡ false
-  unfolding lastIs isByte
-  last-other n = ne-eqb (getD tag (getD ends k 0 - 1) 0) b n
+  pub hash-is : hashIs hashes h k ≡ true → getD hashes k 0 ≡ h
+  unfolding hashIs
+  hash-is e = eqb-true (getD hashes k 0) h e
 
-  last-not : lastIs tag ends b k ≡ false → getD tag (getD ends k 0 - 1) 0 ≡ b → ⊥
-  last-not h e = true≢false (sym (last-same e) ∙ h)
+-- The hash of a key: while checks are off, and while they are on
+module _ (tag : List ℕ) (checks : Bool) (from to : ℕ) where
+  pub hash-off : checks ≡ false → 0 ≡ hashFor tag checks from to
+  unfolding hashFor
+  hash-off off = rw off
 
--- Keys with another last byte are none of those with the same bytes, so the search passes over them.
-pub over-ends : (tag starts ends : List ℕ) (count from to k i : ℕ) → KeysIn starts ends count (length tag) → from ≤ to → to ≤ length tag → i ≡ firstTo (lastIs tag ends (getD tag (to - 1) 0)) k count → k ≤ count → firstTo (sameKey tag starts ends from to) k count ≡ firstTo (sameKey tag starts ends from to) i count
-unfolding nameAt sameKey
-over-ends tag starts ends count from to k i keys hf ht e h =
-    let first = to-first (lastIs tag ends (getD tag (to - 1) 0)) k count h in
-    to-skip (sameKey tag starts ends from to) k i count (omega (arith, first .ahead)) (omega (arith, first .inside))
-    (λ n lo hi.
-    let low : n < firstTo (lastIs tag ends (getD tag (to - 1) 0)) k count = omega arith in
-    let key = keys .inside n (omega (arith, first .inside)) in
-    unlike-last tag (getD starts n 0) (getD ends n 0) from to (le-of-lt (key .0)) (key .1) hf ht (key .0)
-    (last-not tag ends (getD tag (to - 1) 0) n (first .before n lo low)))
+  pub hash-on : (h : ℕ) → checks ≡ true → h ≡ hashOf (part tag from to) → h ≡ hashFor tag checks from to
+  unfolding hashFor
+  hash-on h on e = rw on e
 
-pub ends-in : (starts ends : List ℕ) (count len : ℕ) → KeysIn starts ends count len → EndsIn ends count len
-ends-in starts ends count len keys =
-    record { placed = keys .placed .1; inside = λ k lt. (omega (arith, keys .inside k lt .0), keys .inside k lt .1) }
+  pub hash-asked : (h : ℕ) → h ≡ hashFor tag checks from to → checks ≡ true → h ≡ hashOf (part tag from to)
+  unfolding hashFor
+  hash-asked h e on = e ∙ rw on
 
 -- what holds from j on, and just before j
 pub down-more : (P : ℕ → Type 0) (j n : ℕ) → 0 < j → ((i : ℕ) → j ≤ i → i < n → P i) → P (j - 1) → (i : ℕ) → j - 1 ≤ i → i < n → P i
@@ -182,92 +171,142 @@ module _ (tag starts ends : List ℕ) (count from to : ℕ) where
         let l = ltb-false (oldestOf tag starts ends count from to) count h in
         unlike k (oldest-first .before k (omega arith) (omega arith))
 
+-- Whether lists hold so many keys, as facts
+
+pub holds-facts : (starts ends hashes : List ℕ) (n : ℕ) → holds starts ends hashes n ≡ true → (n ≤ length starts) × (n ≤ length ends) × (n ≤ length hashes)
+holds-facts starts ends hashes n h =
+    let b = both (leb n (length starts)) (leb n (length ends) && leb n (length hashes)) h in
+    let d = both (leb n (length ends)) (leb n (length hashes)) (b .1) in
+    (leb-true n (length starts) (b .0), leb-true n (length ends) (d .0), leb-true n (length hashes) (d .1))
+
+pub facts-hold : (starts ends hashes : List ℕ) (n : ℕ) → (n ≤ length starts) × (n ≤ length ends) × (n ≤ length hashes) → holds starts ends hashes n ≡ true
+facts-hold starts ends hashes n h = rw (le-leb n (length starts) (h .0), le-leb n (length ends) (h .1), le-leb n (length hashes) (h .2))
+
 -- Good tables
 
-module _ (len : ℕ) (starts ends : List ℕ) where
-  pub bad-order : (k : ℕ) → getD ends k 0 ≤ getD starts k 0 → keyBad len starts ends k ≡ true
+module _ (tag starts ends hashes : List ℕ) where
+  pub bad-order : (k : ℕ) → getD ends k 0 ≤ getD starts k 0 → keyBad tag starts ends hashes k ≡ true
   unfolding keyBad keyGood
   bad-order k h = rw (le-ltb (getD starts k 0) (getD ends k 0) h)
 
-  pub bad-end : (k : ℕ) → getD starts k 0 < getD ends k 0 → len < getD ends k 0 → keyBad len starts ends k ≡ true
+  pub bad-end : (k : ℕ) → getD starts k 0 < getD ends k 0 → length tag < getD ends k 0 → keyBad tag starts ends hashes k ≡ true
   unfolding keyBad keyGood
-  bad-end k h g = rw (lt-ltb (getD starts k 0) (getD ends k 0) h, lt-leb (getD ends k 0) len g)
+  bad-end k h g = rw (lt-ltb (getD starts k 0) (getD ends k 0) h, lt-leb (getD ends k 0) (length tag) g)
 
-  pub fine : (k : ℕ) → getD starts k 0 < getD ends k 0 → getD ends k 0 ≤ len → keyBad len starts ends k ≡ false
+  pub bad-hash : (k : ℕ) → getD starts k 0 < getD ends k 0 → getD ends k 0 ≤ length tag → (getD hashes k 0 ≡ hashOf (nameAt tag starts ends k) → ⊥) → keyBad tag starts ends hashes k ≡ true
   unfolding keyBad keyGood
-  fine k h g = rw (lt-ltb (getD starts k 0) (getD ends k 0) h, le-leb (getD ends k 0) len g)
+  bad-hash k h g n =
+      rw (lt-ltb (getD starts k 0) (getD ends k 0) h, le-leb (getD ends k 0) (length tag) g, hash-other hashes (hashOf (nameAt tag starts ends k)) k n)
 
-  not-bad : (k : ℕ) → keyBad len starts ends k ≡ false → (getD starts k 0 < getD ends k 0) × (getD ends k 0 ≤ len)
+  pub fine : (k : ℕ) → getD starts k 0 < getD ends k 0 → getD ends k 0 ≤ length tag → getD hashes k 0 ≡ hashOf (nameAt tag starts ends k) → keyBad tag starts ends hashes k ≡ false
   unfolding keyBad keyGood
+  fine k h g e =
+      rw (lt-ltb (getD starts k 0) (getD ends k 0) h, le-leb (getD ends k 0) (length tag) g, hash-same hashes (hashOf (nameAt tag starts ends k)) k e)
+
+  not-bad : (k : ℕ) → keyBad tag starts ends hashes k ≡ false → (keyGood (length tag) (getD starts k 0) (getD ends k 0) ≡ true) × (hashIs hashes (hashOf (nameAt tag starts ends k)) k ≡ true)
+  unfolding keyBad
   not-bad k h =
-      let b = both (ltb (getD starts k 0) (getD ends k 0)) (leb (getD ends k 0) len) (not-false (ltb (getD starts k 0) (getD ends k 0) && leb (getD ends k 0) len) h) in
-      (ltb-true (getD starts k 0) (getD ends k 0) (b .0), leb-true (getD ends k 0) len (b .1))
+      let good = keyGood (length tag) (getD starts k 0) (getD ends k 0) in
+      let own = hashIs hashes (hashOf (nameAt tag starts ends k)) k in
+      both good own (not-false (good && own) h)
+
+  key-good : (k : ℕ) → keyGood (length tag) (getD starts k 0) (getD ends k 0) ≡ true → (getD starts k 0 < getD ends k 0) × (getD ends k 0 ≤ length tag)
+  unfolding keyGood
+  key-good k h =
+      let b = both (ltb (getD starts k 0) (getD ends k 0)) (leb (getD ends k 0) (length tag)) h in
+      (ltb-true (getD starts k 0) (getD ends k 0) (b .0), leb-true (getD ends k 0) (length tag) (b .1))
 
   module _ (count : ℕ) where
-    pub table-many : capacity < count → false ≡ tableGood len starts ends count
+    pub table-many : capacity < count → false ≡ tableGood tag starts ends hashes count
     unfolding tableGood countGood
     table-many h = rw (lt-leb count capacity h)
 
-    pub table-starts : count ≤ capacity → length starts < count → false ≡ tableGood len starts ends count
+    pub table-short : count ≤ capacity → holds starts ends hashes count ≡ false → false ≡ tableGood tag starts ends hashes count
     unfolding tableGood countGood
-    table-starts f h = rw (le-leb count capacity f, lt-leb count (length starts) h)
+    table-short f h = rw (le-leb count capacity f, h)
 
-    pub table-ends : count ≤ capacity → count ≤ length starts → length ends < count → false ≡ tableGood len starts ends count
-    unfolding tableGood countGood
-    table-ends f g h = rw (le-leb count capacity f, le-leb count (length starts) g, lt-leb count (length ends) h)
-
-    module _ (f : count ≤ capacity) (g : count ≤ length starts) (h : count ≤ length ends) (k : ℕ)
-        (same : firstTo (keyBad len starts ends) 0 count ≡ firstTo (keyBad len starts ends) k count) where
-      pub table-bad : k < count → keyBad len starts ends k ≡ true → false ≡ tableGood len starts ends count
+    module _ (f : count ≤ capacity) (h : holds starts ends hashes count ≡ true) (k : ℕ)
+        (same : firstTo (keyBad tag starts ends hashes) 0 count ≡ firstTo (keyBad tag starts ends hashes) k count) where
+      pub table-bad : k < count → keyBad tag starts ends hashes k ≡ true → false ≡ tableGood tag starts ends hashes count
       unfolding tableGood countGood
-      table-bad l b = rw (le-leb count capacity f, le-leb count (length starts) g, le-leb count (length ends) h, same, to-hit (keyBad len starts ends) k count l b, lt-leb count k l)
+      table-bad l b = rw (le-leb count capacity f, h, same, to-hit (keyBad tag starts ends hashes) k count l b, lt-leb count k l)
 
-      pub table-all : count ≤ k → true ≡ tableGood len starts ends count
+      pub table-all : count ≤ k → true ≡ tableGood tag starts ends hashes count
       unfolding tableGood countGood
-      table-all l = rw (le-leb count capacity f, le-leb count (length starts) g, le-leb count (length ends) h, same, to-past (keyBad len starts ends) k count l, le-leb count k l)
+      table-all l = rw (le-leb count capacity f, h, same, to-past (keyBad tag starts ends hashes) k count l, le-leb count k l)
 
     -- what the test of a table says
-    pub table-in : tableGood len starts ends count ≡ true → KeysIn starts ends count len
+    pub table-in : tableGood tag starts ends hashes count ≡ true → KeysIn starts ends hashes count tag
     unfolding tableGood countGood
     table-in t =
-        let n = firstTo (keyBad len starts ends) 0 count in
-        let a = both (countGood starts ends count) (leb count n) t in
-        let b = both (leb count capacity) (leb count (length starts) && leb count (length ends)) (a .0) in
-        let d = both (leb count (length starts)) (leb count (length ends)) (b .1) in
+        let n = firstTo (keyBad tag starts ends hashes) 0 count in
+        let a = both (countGood starts ends hashes count) (leb count n) t in
+        let b = both (leb count capacity) (holds starts ends hashes count) (a .0) in
         let all : count ≤ n = leb-true count n (a .1) in
+        let none = to-first (keyBad tag starts ends hashes) 0 count (omega arith) .before in
         record {
           few = leb-true count capacity (b .0);
-          placed = (leb-true count (length starts) (d .0), leb-true count (length ends) (d .1));
-          inside = λ k lt. not-bad k (to-first (keyBad len starts ends) 0 count (omega arith) .before k (omega arith) (omega arith));
+          placed = holds-facts starts ends hashes count (b .1);
+          inside = λ k lt. key-good k (not-bad k (none k (omega arith) (omega arith)) .0);
+          kept = λ k lt. hash-is hashes (hashOf (nameAt tag starts ends k)) k (not-bad k (none k (omega arith) (omega arith)) .1);
         }
 
     -- and what it takes
-    pub in-table : KeysIn starts ends count len → tableGood len starts ends count ≡ true
+    pub in-table : KeysIn starts ends hashes count tag → tableGood tag starts ends hashes count ≡ true
     in-table i =
         sym
-        (table-all (i .few) (i .placed .0) (i .placed .1) count
-        (first-only (keyBad len starts ends) 0 count (firstTo (keyBad len starts ends) 0 count) (firstTo (keyBad len starts ends) count count)
-        (to-first (keyBad len starts ends) 0 count (omega arith))
+        (table-all (i .few) (facts-hold starts ends hashes count (i .placed)) count
+        (first-only (keyBad tag starts ends hashes) 0 count (firstTo (keyBad tag starts ends hashes) 0 count) (firstTo (keyBad tag starts ends hashes) count count)
+        (to-first (keyBad tag starts ends hashes) 0 count (omega arith))
         (record {
           ahead = omega arith;
           inside = omega (arith, past);
           found = λ l. absurd (omega (arith, past));
-          before = λ k lo hi. fine k (i .inside k (omega (arith, past)) .0) (i .inside k (omega (arith, past)) .1);
+          before = λ k lo hi.
+              (let lt : k < count = omega (arith, past) in
+              fine k (i .inside k lt .0) (i .inside k lt .1) (i .kept k lt));
         }))
         (omega arith)) where
-          past : firstTo (keyBad len starts ends) count count ≡ count
-          past = to-past (keyBad len starts ends) count count (omega arith)
+          past : firstTo (keyBad tag starts ends hashes) count count ≡ count
+          past = to-past (keyBad tag starts ends hashes) count count (omega arith)
 
 -- no key is recorded
-pub keys-none : (starts ends : List ℕ) (len : ℕ) → KeysIn starts ends 0 len
-keys-none starts ends len = record { few = omega arith; placed = (omega arith, omega arith); inside = λ k lt. absurd (omega arith) }
+pub keys-none : (starts ends hashes tag : List ℕ) → KeysIn starts ends hashes 0 tag
+keys-none starts ends hashes tag =
+    record {
+      few = omega arith;
+      placed = (omega arith, omega arith, omega arith);
+      inside = λ k lt. absurd (omega arith);
+      kept = λ k lt. absurd (omega arith);
+    }
 
--- the tag grows
-pub keys-longer : (starts ends : List ℕ) (count len more : ℕ) → len ≤ more → KeysIn starts ends count len → KeysIn starts ends count more
-keys-longer starts ends count len more h i =
-    record { few = i .few; placed = i .placed; inside = λ k lt. (i .inside k lt .0, omega (arith, i .inside k lt .1)) }
+-- a tag that begins as another one goes on with its recorded keys
+pub keys-longer : (starts ends hashes : List ℕ) (count : ℕ) (tag more : List ℕ) → length tag ≤ length more → take (length tag) tag ≡ take (length tag) more → KeysIn starts ends hashes count tag → KeysIn starts ends hashes count more
+unfolding nameAt
+keys-longer starts ends hashes count tag more h same i =
+    record {
+      few = i .few;
+      placed = i .placed;
+      inside = λ k lt. (i .inside k lt .0, omega (arith, i .inside k lt .1));
+      kept = λ k lt.
+          i .kept k lt ∙ ap hashOf (part-same (length tag) tag more (getD starts k 0) (getD ends k 0) same (le-of-lt (i .inside k lt .0)) (i .inside k lt .1));
+    }
 
 -- Verdicts
+
+-- by what a search found
+module _ (count : ℕ) (x : Earlier) where
+  pub by-same : (p : ℕ) → x ≡ At p → checkedBy count x ≡ Same p
+  unfolding checkedBy
+  by-same p e = rw e
+
+  pub by-full : x ≡ Nothing → capacity ≤ count → checkedBy count x ≡ Full
+  unfolding checkedBy
+  by-full e h = rw (e, le-ltb count capacity h)
+
+  pub by-fresh : x ≡ Nothing → count < capacity → checkedBy count x ≡ Fresh (count + 1)
+  unfolding checkedBy
+  by-fresh e h = rw (e, lt-ltb count capacity h)
 
 module _ (tag : List ℕ) (checks : Bool) (starts ends : List ℕ) (count from to : ℕ) where
   pub checked-off : checks ≡ false → checkedOf tag checks starts ends count from to ≡ Fresh count
@@ -275,6 +314,10 @@ module _ (tag : List ℕ) (checks : Bool) (starts ends : List ℕ) (count from t
   checked-off h = rw h
 
   module _ (on : checks ≡ true) where
+    pub checked-by : (x : Earlier) → x ≡ earlierOf tag starts ends count from to → checkedOf tag checks starts ends count from to ≡ checkedBy count x
+    unfolding checkedOf
+    checked-by x e = rw (on, e)
+
     pub checked-same : (p : ℕ) → earlierOf tag starts ends count from to ≡ At p → checkedOf tag checks starts ends count from to ≡ Same p
     unfolding checkedOf checkedBy
     checked-same p e = rw (on, e)
@@ -304,102 +347,124 @@ written-length false (Fresh n) t count x = refl
 written-length checks (Same p) t count x = refl
 written-length checks Full t count x = refl
 
-pub room-stays : (checks : Bool) (v w : Checked) (starts ends : List ℕ) (m n x y : ℕ) → KeyRoom checks starts ends → KeyRoom checks (writtenBy checks v starts m x) (writtenBy checks w ends n y)
-room-stays checks v w starts ends m n x y r =
-    record { room = λ on. (omega (arith, r .room on, written-length checks v starts m x), omega (arith, r .room on, written-length checks w ends n y)) }
+pub room-stays : (checks : Bool) (v : Checked) (starts ends hashes : List ℕ) (count from to hash : ℕ) → KeyRoom checks starts ends hashes → KeyRoom checks (writtenBy checks v starts count from) (writtenBy checks v ends count to) (writtenBy checks v hashes count hash)
+room-stays checks v starts ends hashes count from to hash r =
+    record {
+      room = λ on. (
+        omega (arith, r .room on, written-length checks v starts count from),
+        omega (arith, r .room on, written-length checks v ends count to),
+        omega (arith, r .room on, written-length checks v hashes count hash),
+      );
+    }
 
 -- one key more, at the first unused place
-pub keys-more : (starts ends : List ℕ) (count len from to : ℕ) → KeysIn starts ends count len → count < capacity → count < length starts → count < length ends → from < to → to ≤ len → KeysIn (set starts count from) (set ends count to) (count + 1) len
-keys-more starts ends count len from to i few hs he lt le =
-    record {
-      few = omega arith;
-      placed = (simp length-set (omega arith), simp length-set (omega arith));
-      inside = λ k l. ⊎-elim (λ (e : k ≡ count). last k e) (λ (b : k < count). rest k b) (eq-or-lt-of-le (below k l));
-    } where
-      below : (k : ℕ) → k < count + 1 → k ≤ count
-      below k l = omega arith
+module _ (starts ends hashes : List ℕ) (count : ℕ) (tag : List ℕ) (from to : ℕ) (i : KeysIn starts ends hashes count tag) (few : count < capacity) (places : (count + 1 ≤ length starts) × (count + 1 ≤ length ends) × (count + 1 ≤ length hashes)) where
+  abbrev name : ℕ → List ℕ
+  name k = nameAt tag (set starts count from) (set ends count to) k
 
-      last : (k : ℕ) → k ≡ count → (getD (set starts count from) k 0 < getD (set ends count to) k 0) × (getD (set ends count to) k 0 ≤ len)
-      last k e = rw (e, getD-set-same starts count from 0 hs, getD-set-same ends count to 0 he) (lt, le)
+  abbrev hash : ℕ
+  hash = hashOf (part tag from to)
 
-      rest : (k : ℕ) → k < count → (getD (set starts count from) k 0 < getD (set ends count to) k 0) × (getD (set ends count to) k 0 ≤ len)
-      rest k b =
-          let n : k ≡ count → ⊥ = λ e. omega arith in
-          rw (getD-set-other starts count k from 0 n, getD-set-other ends count k to 0 n) (i .inside k b)
+  -- at its own place, and at every other
+  name-new : name count ≡ part tag from to
+  unfolding nameAt
+  name-new = rw (getD-set-same starts count from 0 (omega (arith, places)), getD-set-same ends count to 0 (omega (arith, places)))
+
+  name-old : (k : ℕ) → k < count → name k ≡ nameAt tag starts ends k
+  unfolding nameAt
+  name-old k lt =
+      let n : k ≡ count → ⊥ = λ e. omega arith in
+      rw (getD-set-other starts count k from 0 n, getD-set-other ends count k to 0 n)
+
+  -- what is so of each key before, and of this one, is so of each then
+  each : (P : ℕ → Type 0) → ((k : ℕ) → k < count → P k) → P count → (k : ℕ) → k < count + 1 → P k
+  each P old new k l = ⊎-elim (λ (e : k ≡ count). subst P (sym e) new) (λ (b : k < count). old k b) (eq-or-lt-of-le (below k l)) where
+    below : (k : ℕ) → k < count + 1 → k ≤ count
+    below k l = omega arith
+
+  pub keys-more : from < to → to ≤ length tag → KeysIn (set starts count from) (set ends count to) (set hashes count hash) (count + 1) tag
+  keys-more lt le =
+      record {
+        few = omega arith;
+        placed = (simp length-set (omega (arith, places)), simp length-set (omega (arith, places)), simp length-set (omega (arith, places)));
+        inside = each (λ (k : ℕ). (getD (set starts count from) k 0 < getD (set ends count to) k 0) × (getD (set ends count to) k 0 ≤ length tag)) old
+            (rw (getD-set-same starts count from 0 (omega (arith, places)), getD-set-same ends count to 0 (omega (arith, places))) (lt, le));
+        kept = each (λ (k : ℕ). getD (set hashes count hash) k 0 ≡ hashOf (name k)) own
+            (getD-set-same hashes count hash 0 (omega (arith, places)) ∙ ap hashOf (sym name-new));
+      } where
+        old : (k : ℕ) → k < count → (getD (set starts count from) k 0 < getD (set ends count to) k 0) × (getD (set ends count to) k 0 ≤ length tag)
+        old k b =
+            let n : k ≡ count → ⊥ = λ e. omega arith in
+            rw (getD-set-other starts count k from 0 n, getD-set-other ends count k to 0 n) (i .inside k b)
+
+        own : (k : ℕ) → k < count → getD (set hashes count hash) k 0 ≡ hashOf (name k)
+        own k b =
+            let n : k ≡ count → ⊥ = λ e. omega arith in
+            getD-set-other hashes count k hash 0 n ∙ i .kept k b ∙ ap hashOf (sym (name-old k b))
 
 -- the table that a verdict leaves, with its count
-abbrev pub KeysAfter : Bool → Checked → List ℕ → List ℕ → (count from to len : ℕ) → Type 0
-KeysAfter checks v starts ends count from to len = KeysIn (writtenBy checks v starts count from) (writtenBy checks v ends count to) (countBy v count) len
+abbrev pub KeysAfter : Bool → Checked → (starts ends hashes : List ℕ) → (count from to : ℕ) → List ℕ → Type 0
+KeysAfter checks v starts ends hashes count from to tag =
+    KeysIn (writtenBy checks v starts count from) (writtenBy checks v ends count to) (writtenBy checks v hashes count (hashOf (part tag from to))) (countBy v count) tag
 
--- whether lists hold so many keys, as facts
-pub holds-facts : (starts ends : List ℕ) (n : ℕ) → holds starts ends n ≡ true → (n ≤ length starts) × (n ≤ length ends)
-holds-facts starts ends n h =
-    let b = both (leb n (length starts)) (leb n (length ends)) h in
-    (leb-true n (length starts) (b .0), leb-true n (length ends) (b .1))
-
-pub facts-hold : (starts ends : List ℕ) (n : ℕ) → n ≤ length starts → n ≤ length ends → holds starts ends n ≡ true
-facts-hold starts ends n a b = rw (le-leb n (length starts) a, le-leb n (length ends) b)
-
-module _ (tag starts ends : List ℕ) (count from to len : ℕ) (i : KeysIn starts ends count len) where
+module _ (tag starts ends hashes : List ℕ) (count from to : ℕ) (i : KeysIn starts ends hashes count tag) where
   -- The check of a key that is not empty and lies inside the tag leaves a good table good, if the lists hold what is recorded then.
-  pub keys-held : (checks : Bool) → from < to → to ≤ len →
+  pub keys-held : (checks : Bool) → from < to → to ≤ length tag →
       let v = checkedOf tag checks starts ends count from to in
-      holds starts ends (countBy v count) ≡ true → KeysAfter checks v starts ends count from to len
+      holds starts ends hashes (countBy v count) ≡ true → KeysAfter checks v starts ends hashes count from to tag
   unfolding checkedOf checkedBy writtenBy countBy
   keys-held false lt le = λ h. i
   keys-held true lt le = by (earlierOf tag starts ends count from to) (ltb count capacity) refl where
-    by : (e : Earlier) (t : Bool) → ltb count capacity ≡ t → holds starts ends (countBy (checkedBy count e) count) ≡ true → KeysAfter true (checkedBy count e) starts ends count from to len
+    by : (e : Earlier) (t : Bool) → ltb count capacity ≡ t → holds starts ends hashes (countBy (checkedBy count e) count) ≡ true → KeysAfter true (checkedBy count e) starts ends hashes count from to tag
     by (At p) t h = λ f. i
     by Nothing true h =
-        rw h (λ f.
-        let few = ltb-true count capacity h in
-        let places = holds-facts starts ends (count + 1) f in
-        keys-more starts ends count len from to i few (omega arith) (omega arith) lt le)
+        rw h (λ f. keys-more starts ends hashes count tag from to i (ltb-true count capacity h) (holds-facts starts ends hashes (count + 1) f) lt le)
     by Nothing false h = rw h (λ f. i)
 
   -- With room for as many keys as may ever be recorded they always do.
-  pub room-holds : (checks : Bool) → KeyRoom checks starts ends → holds starts ends (countBy (checkedOf tag checks starts ends count from to) count) ≡ true
+  pub room-holds : (checks : Bool) → KeyRoom checks starts ends hashes → holds starts ends hashes (countBy (checkedOf tag checks starts ends count from to) count) ≡ true
   unfolding checkedOf checkedBy countBy
-  room-holds false r = facts-hold starts ends count (i .placed .0) (i .placed .1)
+  room-holds false r = facts-hold starts ends hashes count (i .placed)
   room-holds true r = by (earlierOf tag starts ends count from to) (ltb count capacity) refl where
-    by : (e : Earlier) (t : Bool) → ltb count capacity ≡ t → holds starts ends (countBy (checkedBy count e) count) ≡ true
-    by (At p) t h = facts-hold starts ends count (i .placed .0) (i .placed .1)
+    by : (e : Earlier) (t : Bool) → ltb count capacity ≡ t → holds starts ends hashes (countBy (checkedBy count e) count) ≡ true
+    by (At p) t h = facts-hold starts ends hashes count (i .placed)
     by Nothing true h =
         let few = ltb-true count capacity h in
         let places = r .room refl in
-        rw h (facts-hold starts ends (count + 1) (omega arith) (omega arith))
-    by Nothing false h = rw h (facts-hold starts ends count (i .placed .0) (i .placed .1))
+        rw h (facts-hold starts ends hashes (count + 1) (omega arith, omega arith, omega arith))
+    by Nothing false h = rw h (facts-hold starts ends hashes count (i .placed))
 
-pub keys-after : (tag : List ℕ) (checks : Bool) (starts ends : List ℕ) (count from to len : ℕ) → KeysIn starts ends count len → KeyRoom checks starts ends → from < to → to ≤ len → KeysAfter checks (checkedOf tag checks starts ends count from to) starts ends count from to len
-keys-after tag checks starts ends count from to len i r lt le =
-    keys-held tag starts ends count from to len i checks lt le (room-holds tag starts ends count from to len i checks r)
-
--- when lists have the place of the next key: while checks are off, and where neither is full
-module _ (checks : Bool) (starts ends : List ℕ) (count : ℕ) where
-  pub place-unwanted : checks ≡ false → true ≡ hasPlace checks starts ends count
+-- when lists have the place of the next key: while checks are off, and where none is full
+module _ (checks : Bool) (starts ends hashes : List ℕ) (count : ℕ) where
+  pub place-unwanted : checks ≡ false → true ≡ hasPlace checks starts ends hashes count
   unfolding hasPlace
   place-unwanted off = rw off
 
-  pub place-there : checks ≡ true → count < length starts → count < length ends → true ≡ hasPlace checks starts ends count
+  pub place-there : checks ≡ true → count < length starts → count < length ends → count < length hashes → true ≡ hasPlace checks starts ends hashes count
   unfolding hasPlace
-  place-there on a b = rw (on, facts-hold starts ends (count + 1) (omega arith) (omega arith))
+  place-there on a b d = rw (on, facts-hold starts ends hashes (count + 1) (omega arith, omega arith, omega arith))
 
-  pub starts-full : checks ≡ true → length starts ≤ count → false ≡ hasPlace checks starts ends count
+  pub starts-full : checks ≡ true → length starts ≤ count → false ≡ hasPlace checks starts ends hashes count
   unfolding hasPlace
   starts-full on a = rw (on, lt-leb (count + 1) (length starts) (omega arith))
 
-  pub ends-full : checks ≡ true → count < length starts → length ends ≤ count → false ≡ hasPlace checks starts ends count
+  pub ends-full : checks ≡ true → count < length starts → length ends ≤ count → false ≡ hasPlace checks starts ends hashes count
   unfolding hasPlace
   ends-full on a b = rw (on, le-leb (count + 1) (length starts) (omega arith), lt-leb (count + 1) (length ends) (omega arith))
 
+  pub hashes-full : checks ≡ true → count < length starts → count < length ends → length hashes ≤ count → false ≡ hasPlace checks starts ends hashes count
+  unfolding hasPlace
+  hashes-full on a b d =
+      rw (on, le-leb (count + 1) (length starts) (omega arith), le-leb (count + 1) (length ends) (omega arith), lt-leb (count + 1) (length hashes) (omega arith))
+
 -- A new key has its place exactly if the lists hold as many keys as there are with it.
-pub fresh-holds : (tag : List ℕ) (checks : Bool) (starts ends : List ℕ) (count from to len n : ℕ) → KeysIn starts ends count len → checkedOf tag checks starts ends count from to ≡ Fresh n → holds starts ends n ≡ hasPlace checks starts ends count
+pub fresh-holds : (tag : List ℕ) (checks : Bool) (starts ends hashes : List ℕ) (count from to n : ℕ) → KeysIn starts ends hashes count tag → checkedOf tag checks starts ends count from to ≡ Fresh n → holds starts ends hashes n ≡ hasPlace checks starts ends hashes count
 unfolding checkedOf checkedBy hasPlace
-fresh-holds tag false starts ends count from to len n i = λ e.
+fresh-holds tag false starts ends hashes count from to n i = λ e.
     let m : count ≡ n = cc in
-    rw (sym m) (facts-hold starts ends count (i .placed .0) (i .placed .1))
-fresh-holds tag true starts ends count from to len n i = by (earlierOf tag starts ends count from to) (ltb count capacity) refl where
-  by : (x : Earlier) (t : Bool) → ltb count capacity ≡ t → checkedBy count x ≡ Fresh n → holds starts ends n ≡ holds starts ends (count + 1)
+    rw (sym m) (facts-hold starts ends hashes count (i .placed))
+fresh-holds tag true starts ends hashes count from to n i = by (earlierOf tag starts ends count from to) (ltb count capacity) refl where
+  by : (x : Earlier) (t : Bool) → ltb count capacity ≡ t → checkedBy count x ≡ Fresh n → holds starts ends hashes n ≡ holds starts ends hashes (count + 1)
   by (At p) t h = λ e. absurd (let z : _≡_ {A = ℕ} 0 1 = cc in omega arith)
   by Nothing true h = rw h (λ e.
       let m : count + 1 ≡ n = cc in

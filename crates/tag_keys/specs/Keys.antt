@@ -1,70 +1,78 @@
--- The recorded keys. A table of them is two lists, the keys' starts and their ends in the order in which they were
--- recorded, and a count: places at or after the count are unused.
+-- The recorded keys. A table of them is three lists, the keys' starts, their ends and their hashes in the order in which they
+-- were recorded, and a count: places at or after the count are unused.
 use Prim.Native.Nat.{ℕ, _+_, _-_, _≤_, _<_}
 use mathlib.Core.Path.{_≡_}
 use mathlib.Core.Bool.{Bool, true, false, not, _&&_}
 use mathlib.Core.List.{List, [], _∷_}
 use lib.ListN.{length, getD, set}
-use lib.Dec.{ltb, leb}
+use lib.Dec.{eqb, ltb, leb}
 use Rattle.scan.specs.First.{firstTo, pick}
-use Rattle.scan.specs.Bytes.{part, isByte, sameBytes}
+use Rattle.scan.specs.Bytes.{part, sameBytes}
+use Rattle.tag_keys.specs.Hash.{hashOf}
 use Rattle.tag_keys.specs.declared.Earlier.{Earlier}
 use Rattle.tag_keys.specs.declared.Earlier.the-variants.{At, Nothing}
 use Rattle.tag_keys.specs.declared.Checked.{Checked}
 use Rattle.tag_keys.specs.declared.Checked.the-variants.{Fresh, Same, Full}
 
--- Capacities: 256 recorded keys.
+-- Capacities: 1,024 recorded keys.
 abbrev pub capacity : ℕ
-capacity = 256
-
--- A key is good exactly if it is not empty and lies inside a tag of len bytes.
-unfoldable pub keyGood : ℕ → ℕ → ℕ → Bool
-keyGood len start end = ltb start end && leb end len
-
--- State 7 covers a recorded key that is empty or not inside the tag: this is the test at index k.
-unfoldable pub keyBad : ℕ → List ℕ → List ℕ → ℕ → Bool
-keyBad len starts ends k = not (keyGood len (getD starts k 0) (getD ends k 0))
-
--- Whether lists hold so many keys: those of unequal lengths count as long as the shorter one.
-abbrev pub holds : (starts ends : List ℕ) → ℕ → Bool
-holds starts ends count = leb count (length starts) && leb count (length ends)
-
--- the count is no more than the capacity, and each list has a place for every recorded key
-unfoldable pub countGood : List ℕ → List ℕ → ℕ → Bool
-countGood starts ends count = leb count capacity && holds starts ends count
-
--- State 7 covers more keys than the capacity, and any recorded key that is bad: a table is good where neither is so.
--- (Lent lists too short for the count are no table of that many keys.)
-unfoldable pub tableGood : ℕ → List ℕ → List ℕ → ℕ → Bool
-tableGood len starts ends count = countGood starts ends count && leb count (firstTo (keyBad len starts ends) 0 count)
-
--- the same as facts
-pub record KeysIn (starts ends : List ℕ) (count len : ℕ) : Type 0 where
-  pub few : count ≤ capacity
-  pub placed : (count ≤ length starts) × (count ≤ length ends)
-  pub inside : (k : ℕ) → k < count → (getD starts k 0 < getD ends k 0) × (getD ends k 0 ≤ len)
-
--- of the ends alone
-pub record EndsIn (ends : List ℕ) (count len : ℕ) : Type 0 where
-  pub placed : count ≤ length ends
-  pub inside : (k : ℕ) → k < count → (0 < getD ends k 0) × (getD ends k 0 ≤ len)
-
--- While checks are on each list has a place for as many keys as may ever be recorded. Nothing is asked of them while
--- checks are off.
-pub record KeyRoom (checks : Bool) (starts ends : List ℕ) : Type 0 where
-  pub room : checks ≡ true → (capacity ≤ length starts) × (capacity ≤ length ends)
-
--- Whether lists have the place of the next key. While checks are off none is wanted.
-unfoldable pub hasPlace : Bool → (starts ends : List ℕ) → ℕ → Bool
-hasPlace checks starts ends count = pick checks (holds starts ends (count + 1)) true
+capacity = 1024
 
 -- the name at index k: the bytes of that recorded key
 unfoldable pub nameAt : List ℕ → List ℕ → List ℕ → ℕ → List ℕ
 nameAt tag starts ends k = part tag (getD starts k 0) (getD ends k 0)
 
--- whether the last byte of the recorded key at index k is b
-unfoldable pub lastIs : List ℕ → List ℕ → ℕ → ℕ → Bool
-lastIs tag ends b k = isByte b (getD tag (getD ends k 0 - 1) 0)
+-- A key is good exactly if it is not empty and lies inside a tag of len bytes.
+unfoldable pub keyGood : ℕ → ℕ → ℕ → Bool
+keyGood len start end = ltb start end && leb end len
+
+-- whether the hash that is kept at index k is h
+unfoldable pub hashIs : List ℕ → ℕ → ℕ → Bool
+hashIs hashes h k = eqb (getD hashes k 0) h
+
+-- how many kept hashes are asked together
+abbrev pub block : ℕ
+block = 16
+
+-- State 7 covers a recorded key that is empty or not inside the tag, and a kept hash that is not its key's: this is the test at
+-- index k.
+unfoldable pub keyBad : (tag starts ends hashes : List ℕ) → ℕ → Bool
+keyBad tag starts ends hashes k =
+    not (keyGood (length tag) (getD starts k 0) (getD ends k 0) && hashIs hashes (hashOf (nameAt tag starts ends k)) k)
+
+-- Whether lists hold so many keys: those of unequal lengths count as long as the shortest one.
+abbrev pub holds : (starts ends hashes : List ℕ) → ℕ → Bool
+holds starts ends hashes count = leb count (length starts) && (leb count (length ends) && leb count (length hashes))
+
+-- the count is no more than the capacity, and each list has a place for every recorded key
+unfoldable pub countGood : (starts ends hashes : List ℕ) → ℕ → Bool
+countGood starts ends hashes count = leb count capacity && holds starts ends hashes count
+
+-- State 7 covers more keys than the capacity, and any recorded key that is bad: a table is good where neither is so.
+-- (Lent lists too short for the count are no table of that many keys.)
+unfoldable pub tableGood : (tag starts ends hashes : List ℕ) → ℕ → Bool
+tableGood tag starts ends hashes count =
+    countGood starts ends hashes count && leb count (firstTo (keyBad tag starts ends hashes) 0 count)
+
+-- the same as facts
+pub record KeysIn (starts ends hashes : List ℕ) (count : ℕ) (tag : List ℕ) : Type 0 where
+  pub few : count ≤ capacity
+  pub placed : (count ≤ length starts) × (count ≤ length ends) × (count ≤ length hashes)
+  pub inside : (k : ℕ) → k < count → (getD starts k 0 < getD ends k 0) × (getD ends k 0 ≤ length tag)
+  pub kept : (k : ℕ) → k < count → getD hashes k 0 ≡ hashOf (nameAt tag starts ends k)
+
+-- While checks are on each list has a place for as many keys as may ever be recorded. Nothing is asked of them while
+-- checks are off.
+pub record KeyRoom (checks : Bool) (starts ends hashes : List ℕ) : Type 0 where
+  pub room : checks ≡ true → (capacity ≤ length starts) × (capacity ≤ length ends) × (capacity ≤ length hashes)
+
+-- Whether lists have the place of the next key. While checks are off none is wanted.
+unfoldable pub hasPlace : Bool → (starts ends hashes : List ℕ) → ℕ → Bool
+hasPlace checks starts ends hashes count = pick checks (holds starts ends hashes (count + 1)) true
+
+-- The hash of a key that is due to be checked: while checks are off none is asked for it.
+unfoldable pub hashFor : List ℕ → Bool → ℕ → ℕ → ℕ
+hashFor tag checks from to = pick checks (hashOf (part tag from to)) 0
 
 -- A key is compared byte by byte with a recorded one: whether that at index k has the bytes from `from` up to `to`.
 unfoldable pub sameKey : List ℕ → List ℕ → List ℕ → ℕ → ℕ → ℕ → Bool

@@ -35,23 +35,24 @@ step-stands s html checks keys place g = by (recoverOf s place) refl where
   by (From o) e = after-good s o _ (read-forward s html checks keys o (starts-in s place o e))
 
 -- keys that lie in the tag and a good place are a good state
-parts-good : (s : List ℕ) (keys : Keys) (place : Place) → KeysIn (keys .starts) (keys .ends) (keys .count) (length s) → placeGood s place ≡ true → goodOf s keys place ≡ true
-parts-good s keys place inside stands = sym (and-on (in-table (length s) (keys .starts) (keys .ends) (keys .count) inside) refl) ∙ stands
+parts-good : (s : List ℕ) (keys : Keys) (place : Place) → KeysIn (keys .starts) (keys .ends) (keys .hashes) (keys .count) s → placeGood s place ≡ true → goodOf s keys place ≡ true
+parts-good s keys place inside stands = sym (and-on (in-table s (keys .starts) (keys .ends) (keys .hashes) (keys .count) inside) refl) ∙ stands
 
--- The tables of a state of the code have 256 places each.
+-- The tables of a state of the code have as many places as the capacity.
 pub record Sized (st : IterState) : Type 0 where
   pub starts : length (st .starts) ≡ capacity
   pub ends : length (st .ends) ≡ capacity
+  pub hashes : length (st .hashes) ≡ capacity
 
 -- that is room for every key
-sized-room : (st : IterState) → Sized st → KeyRoom (st .«check_duplicates») (st .starts) (st .ends)
-sized-room st z = record { room = λ _. (omega (arith, z .starts), omega (arith, z .ends)) }
+sized-room : (st : IterState) → Sized st → KeyRoom (st .«check_duplicates») (st .starts) (st .ends) (st .hashes)
+sized-room st z = record { room = λ _. (omega (arith, z .starts), omega (arith, z .ends), omega (arith, z .hashes)) }
 
 -- So a step of a good state is taken, and no place is lacking.
 module _ (s : List ℕ) (st : IterState) (sized : Sized st) (good : stateGood s st ≡ true) where
-  pub sized-inside : KeysIn (st .starts) (st .ends) (st .count) (length s)
+  pub sized-inside : KeysIn (st .starts) (st .ends) (st .hashes) (st .count) s
   unfolding stateGood
-  sized-inside = good-inside s (keysLent (st .starts) (st .ends) (st .count)) (st .place) good
+  sized-inside = good-inside s (keysLent (st .starts) (st .ends) (st .hashes) (st .count)) (st .place) good
 
   abbrev left : Reading
   left = stepOf s (st .html) (st .«check_duplicates») (keysOf st) (st .place)
@@ -66,31 +67,32 @@ module _ (s : List ℕ) (st : IterState) (sized : Sized st) (good : stateGood s 
   unfolding stateGood
   left-good =
       parts-good s (left .keys) (left .place) (kept .inside)
-      (step-stands s (st .html) (st .«check_duplicates») (keysOf st) (st .place) (both (tableGood (length s) (st .starts) (st .ends) (st .count)) (placeGood s (st .place)) good .1))
+      (step-stands s (st .html) (st .«check_duplicates») (keysOf st) (st .place) (both (tableGood s (st .starts) (st .ends) (st .hashes) (st .count)) (placeGood s (st .place)) good .1))
 
   -- what `step_in` does on such tables
-  module _ (r : Stepped) (starts ends : List ℕ) (e : taken r starts ends (st .count) ≡ stepIn s (st .html) (st .«check_duplicates») (keysLent (st .starts) (st .ends) (st .count)) (st .place)) where
-    pub sized-next : (o : Advance) → r ≡ Made o → record { answer = o .answer; state = lentState (o .place) (st .html) (st .«check_duplicates») starts ends (o .count) } ≡ nextOf s st
+  module _ (r : Stepped) (starts ends hashes : List ℕ) (e : taken r starts ends hashes (st .count) ≡ stepIn s (st .html) (st .«check_duplicates») (keysLent (st .starts) (st .ends) (st .hashes) (st .count)) (st .place)) where
+    pub sized-next : (o : Advance) → r ≡ Made o → record { answer = o .answer; state = lentState (o .place) (st .html) (st .«check_duplicates») starts ends hashes (o .count) } ≡ nextOf s st
     unfolding leaves keysOf
     sized-next o m =
-        next-steps s st good (advanced o starts ends)
-        (room-made s (st .«check_duplicates») (keysOf st) sized-inside (sized-room st sized) (st .html) (st .place) r o starts ends e m)
+        next-steps s st good (advanced o starts ends hashes)
+        (room-made s (st .«check_duplicates») (keysOf st) sized-inside (sized-room st sized) (st .html) (st .place) r o starts ends hashes e m)
 
     pub sized-never : r ≡ LendMore → ⊥
     unfolding keysOf
-    sized-never m = room-never s (st .«check_duplicates») (keysOf st) sized-inside (sized-room st sized) (st .html) (st .place) r starts ends e m
+    sized-never m = room-never s (st .«check_duplicates») (keysOf st) sized-inside (sized-room st sized) (st .html) (st .place) r starts ends hashes e m
 
 -- Refusal 7 leaves such tables all zero.
-pub sized-cleared : (s : List ℕ) (st : IterState) → Sized st → stateGood s st ≡ false → (starts ends : List ℕ) → starts ≡ replicate (length (st .starts)) 0 → ends ≡ replicate (length (st .ends)) 0 → leaves st (reading (found BadState Done) (keysLent starts ends 0)) ≡ nextOf s st
+pub sized-cleared : (s : List ℕ) (st : IterState) → Sized st → stateGood s st ≡ false → (starts ends hashes : List ℕ) → starts ≡ replicate (length (st .starts)) 0 → ends ≡ replicate (length (st .ends)) 0 → hashes ≡ replicate (length (st .hashes)) 0 → leaves st (reading (found BadState Done) (keysLent starts ends hashes 0)) ≡ nextOf s st
 unfolding badReading noKeys
-sized-cleared s st z bad starts ends a b =
-    ap (λ (t : List ℕ). leaves st (reading (found BadState Done) (keysLent t ends 0))) (a ∙ ap (λ (n : ℕ). replicate n 0) (z .starts))
-    ∙ ap (λ (t : List ℕ). leaves st (reading (found BadState Done) (keysLent (replicate capacity 0) t 0))) (b ∙ ap (λ (n : ℕ). replicate n 0) (z .ends))
+sized-cleared s st z bad starts ends hashes a b d =
+    ap (λ (t : List ℕ). leaves st (reading (found BadState Done) (keysLent t ends hashes 0))) (a ∙ ap (λ (n : ℕ). replicate n 0) (z .starts))
+    ∙ ap (λ (t : List ℕ). leaves st (reading (found BadState Done) (keysLent (replicate capacity 0) t hashes 0))) (b ∙ ap (λ (n : ℕ). replicate n 0) (z .ends))
+    ∙ ap (λ (t : List ℕ). leaves st (reading (found BadState Done) (keysLent (replicate capacity 0) (replicate capacity 0) t 0))) (d ∙ ap (λ (n : ℕ). replicate n 0) (z .hashes))
     ∙ next-bad s st bad
 
 none-good : (s : List ℕ) → goodOf s noKeys Done ≡ true
 unfolding noKeys placeGood
-none-good s = parts-good s noKeys Done (keys-none (replicate capacity 0) (replicate capacity 0) (length s)) refl
+none-good s = parts-good s noKeys Done (keys-none (replicate capacity 0) (replicate capacity 0) (replicate capacity 0) s) refl
 
 module _ (s : List ℕ) (st : IterState) (sized : Sized st) where
   -- the state after `next` is good, whatever it was before
@@ -108,18 +110,18 @@ module _ (s : List ℕ) (st : IterState) (sized : Sized st) where
     by : (t : Bool) → stateGood s st ≡ t → Sized (leaves st (pick t (stepOf s (st .html) (st .«check_duplicates») (keysOf st) (st .place)) badReading) .state)
     by true g =
         let k = kept s st sized g in
-        record { starts = k .starts ∙ sized .starts; ends = k .ends ∙ sized .ends }
-    by false g = record { starts = length-replicate {A = ℕ} capacity 0; ends = length-replicate {A = ℕ} capacity 0 }
+        record { starts = k .starts ∙ sized .starts; ends = k .ends ∙ sized .ends; hashes = k .hashes ∙ sized .hashes }
+    by false g = record { starts = length-replicate {A = ℕ} capacity 0; ends = length-replicate {A = ℕ} capacity 0; hashes = length-replicate {A = ℕ} capacity 0 }
 
 -- An opened iterator is good, wherever it is opened; and setting the checks leaves a state as good as it was.
 
 pub opened-sized : (o : ℕ) (html checks : Bool) → Sized (opened o html checks)
 unfolding opened noKeys
-opened-sized o html checks = record { starts = length-replicate {A = ℕ} capacity 0; ends = length-replicate {A = ℕ} capacity 0 }
+opened-sized o html checks = record { starts = length-replicate {A = ℕ} capacity 0; ends = length-replicate {A = ℕ} capacity 0; hashes = length-replicate {A = ℕ} capacity 0 }
 
 pub opened-good : (s : List ℕ) (o : ℕ) (html checks : Bool) → stateGood s (opened o html checks) ≡ true
 unfolding opened stateGood placeGood noKeys
-opened-good s o html checks = rw (in-table (length s) (noKeys .starts) (noKeys .ends) 0 (keys-none (noKeys .starts) (noKeys .ends) (length s)))
+opened-good s o html checks = rw (in-table s (noKeys .starts) (noKeys .ends) (noKeys .hashes) 0 (keys-none (noKeys .starts) (noKeys .ends) (noKeys .hashes) s))
 
 pub checks-good : (s : List ℕ) (checks : Bool) (st : IterState) → stateGood s (withChecks checks st) ≡ stateGood s st
 unfolding withChecks stateGood

@@ -10,13 +10,15 @@ use lib.Seq.{take-at, take-all}
 use lib.Dec.{leb, ltb}
 use borrow.Author.Tests.{le-leb, leb-true, leb-false}
 use Rattle.scan.specs.First.{firstTo, pick}
+use Rattle.scan.specs.Bytes.{part}
 use Rattle.scan.specs.Lists.{padTo}
 use Rattle.scan.proofs.Bytes.{both}
 use Rattle.scan.proofs.Lists.{pad-at, pad-length, pad-take, pad-full}
 use Rattle.tag_keys.specs.declared.Earlier.{Earlier}
 use Rattle.tag_keys.specs.declared.Checked.{Checked}
 use Rattle.tag_keys.specs.declared.Checked.the-variants.{Fresh, Same, Full}
-use Rattle.tag_keys.specs.Keys.{capacity, keyGood, keyBad, holds, countGood, tableGood, KeysIn, nameAt, sameKey, oldestOf, earlierOf, checkedBy, checkedOf, recordedIn, writtenBy, countBy}
+use Rattle.tag_keys.specs.Hash.{hashOf}
+use Rattle.tag_keys.specs.Keys.{capacity, hashIs, keyBad, holds, countGood, tableGood, KeysIn, nameAt, sameKey, oldestOf, earlierOf, checkedBy, checkedOf, recordedIn, writtenBy, countBy}
 use Rattle.tag_keys.proofs.Laws.{table-in, in-table, facts-hold, holds-facts}
 use Rattle.tag_step.specs.declared.Span.{Span}
 use Rattle.tag_step.specs.declared.Place.{Place}
@@ -61,9 +63,13 @@ take-zeros (suc m) (suc n) h = ap (λ (l : List ℕ). 0 ∷ l) (take-zeros m n (
 
 -- The verdict on a key, and the test of a table, read the recorded keys alone.
 
+name-padded : (s starts ends : List ℕ) (k : ℕ) → nameAt s (padTo capacity starts) (padTo capacity ends) k ≡ nameAt s starts ends k
+unfolding nameAt
+name-padded s starts ends k = rw (pad-at capacity starts k, pad-at capacity ends k)
+
 same-padded : (s starts ends : List ℕ) (from to k : ℕ) → sameKey s (padTo capacity starts) (padTo capacity ends) from to k ≡ sameKey s starts ends from to k
-unfolding sameKey nameAt
-same-padded s starts ends from to k = rw (pad-at capacity starts k, pad-at capacity ends k)
+unfolding sameKey
+same-padded s starts ends from to k = rw (name-padded s starts ends k)
 
 oldest-padded : (s starts ends : List ℕ) (count from to : ℕ) → oldestOf s (padTo capacity starts) (padTo capacity ends) count from to ≡ oldestOf s starts ends count from to
 unfolding oldestOf
@@ -74,32 +80,32 @@ unfolding checkedOf earlierOf
 check-padded s checks starts ends count from to =
     rw (oldest-padded s starts ends count from to, pad-at capacity starts (oldestOf s starts ends count from to))
 
-bad-at : (len : ℕ) (starts ends : List ℕ) (k : ℕ) → keyBad len (padTo capacity starts) (padTo capacity ends) k ≡ keyBad len starts ends k
-unfolding keyBad
-bad-at len starts ends k = rw (pad-at capacity starts k, pad-at capacity ends k)
+bad-at : (s starts ends hashes : List ℕ) (k : ℕ) → keyBad s (padTo capacity starts) (padTo capacity ends) (padTo capacity hashes) k ≡ keyBad s starts ends hashes k
+unfolding keyBad hashIs
+bad-at s starts ends hashes k = rw (pad-at capacity starts k, pad-at capacity ends k, pad-at capacity hashes k, name-padded s starts ends k)
 
-bad-padded : (len : ℕ) (starts ends : List ℕ) (count : ℕ) → firstTo (keyBad len (padTo capacity starts) (padTo capacity ends)) 0 count ≡ firstTo (keyBad len starts ends) 0 count
-bad-padded len starts ends count = ap (λ (p : ℕ → Bool). firstTo p 0 count) (fun-ext (bad-at len starts ends))
+bad-padded : (s starts ends hashes : List ℕ) (count : ℕ) → firstTo (keyBad s (padTo capacity starts) (padTo capacity ends) (padTo capacity hashes)) 0 count ≡ firstTo (keyBad s starts ends hashes) 0 count
+bad-padded s starts ends hashes count = ap (λ (p : ℕ → Bool). firstTo p 0 count) (fun-ext (bad-at s starts ends hashes))
 
 -- A step on padded tables.
 
 -- what is lent of other tables
 abbrev front : Keys → Keys → Keys
-front keys other = keysLent (take (length (keys .starts)) (other .starts)) (take (length (keys .ends)) (other .ends)) (other .count)
+front keys other = keysLent (take (length (keys .starts)) (other .starts)) (take (length (keys .ends)) (other .ends)) (take (length (keys .hashes)) (other .hashes)) (other .count)
 
 abbrev fronted : Keys → Reading → Reading
 fronted keys x = reading (found (x .answer) (x .place)) (front keys (x .keys))
 
 abbrev padded : Keys → Keys
-padded keys = keysLent (padTo capacity (keys .starts)) (padTo capacity (keys .ends)) (keys .count)
+padded keys = keysLent (padTo capacity (keys .starts)) (padTo capacity (keys .ends)) (padTo capacity (keys .hashes)) (keys .count)
 
 module _ (s : List ℕ) (html checks : Bool) (keys : Keys) where
   front-all : keys ≡ front keys (padded keys)
-  front-all = rw (pad-take capacity (keys .starts), pad-take capacity (keys .ends))
+  front-all = rw (pad-take capacity (keys .starts), pad-take capacity (keys .ends), pad-take capacity (keys .hashes))
 
-  kept-front : (key : Span) (c : Checked) → keptBy checks keys key c ≡ front keys (keptBy checks (padded keys) key c)
+  kept-front : (key : Span) (c : Checked) → keptBy s checks keys key c ≡ front keys (keptBy s checks (padded keys) key c)
   unfolding keptBy
-  kept-front key c = rw (written-front checks c (keys .starts) (keys .count) (key .start), written-front checks c (keys .ends) (keys .count) (key .end))
+  kept-front key c = rw (written-front checks c (keys .starts) (keys .count) (key .start), written-front checks c (keys .ends) (keys .count) (key .end), written-front checks c (keys .hashes) (keys .count) (hashOf (part s (key .start) (key .end))))
 
   verdict : (key : Span) → checkOf s checks (padded keys) key ≡ checkOf s checks keys key
   unfolding checkOf
@@ -124,24 +130,24 @@ module _ (s : List ℕ) (html checks : Bool) (keys : Keys) where
     by Ended = ap (λ (k : Keys). reading (found End place) k) front-all
 
 -- The state is good exactly if the iterator's is, and the tables hold its keys.
-good-by : (a h p q : Bool) → h ≡ true → p ≡ a → q ≡ a → (f : Bool) → ((a && h) && f) ≡ ((a && (p && q)) && f)
-good-by true h p q e x y f = rw (e, x, y)
-good-by false h p q e x y f = refl
+good-by : (a h : Bool) → h ≡ true → (f : Bool) → ((a && h) && f) ≡ ((a && (a && (a && a))) && f)
+good-by true h e f = rw e
+good-by false h e f = refl
 
-module _ (s : List ℕ) (st : IterState) (ls : length (st .starts) ≤ capacity) (le : length (st .ends) ≤ capacity) where
-  pub whole-good : holds (st .starts) (st .ends) (st .count) ≡ true → stateGood s st ≡ stateGood s (wholeOf st)
+module _ (s : List ℕ) (st : IterState) (ls : length (st .starts) ≤ capacity) (le : length (st .ends) ≤ capacity) (lh : length (st .hashes) ≤ capacity) where
+  pub whole-good : holds (st .starts) (st .ends) (st .hashes) (st .count) ≡ true → stateGood s st ≡ stateGood s (wholeOf st)
   unfolding stateGood wholeOf tableGood countGood
   whole-good h =
-      rw (bad-padded (length s) (st .starts) (st .ends) (st .count), pad-length capacity (st .starts) ls, pad-length capacity (st .ends) le)
+      rw (bad-padded s (st .starts) (st .ends) (st .hashes) (st .count), pad-length capacity (st .starts) ls, pad-length capacity (st .ends) le, pad-length capacity (st .hashes) lh)
       (ap (λ (b : Bool). b && placeGood s (st .place))
-      (good-by (leb (st .count) capacity) (holds (st .starts) (st .ends) (st .count)) (leb (st .count) capacity) (leb (st .count) capacity) h refl refl (leb (st .count) (firstTo (keyBad (length s) (st .starts) (st .ends)) 0 (st .count)))))
+      (good-by (leb (st .count) capacity) (holds (st .starts) (st .ends) (st .hashes) (st .count)) h (leb (st .count) (firstTo (keyBad s (st .starts) (st .ends) (st .hashes)) 0 (st .count)))))
 
   -- a state that is not good is answered by 7, on the lent tables
   module _ (bad : stateGood s st ≡ false) where
     whole-bad : wholeNext s st ≡ leaves st badReading
     unfolding wholeNext leaves wholeOf
-    whole-bad = by (holds (st .starts) (st .ends) (st .count)) refl where
-      by : (t : Bool) → holds (st .starts) (st .ends) (st .count) ≡ t → pick t (nextOf s (wholeOf st)) (leaves st badReading) ≡ leaves st badReading
+    whole-bad = by (holds (st .starts) (st .ends) (st .hashes) (st .count)) refl where
+      by : (t : Bool) → holds (st .starts) (st .ends) (st .hashes) (st .count) ≡ t → pick t (nextOf s (wholeOf st)) (leaves st badReading) ≡ leaves st badReading
       by true h = sym (next-bad s (wholeOf st) (sym (whole-good h) ∙ bad))
       by false h = refl
 
@@ -151,19 +157,19 @@ module _ (s : List ℕ) (st : IterState) (ls : length (st .starts) ≤ capacity)
 
     pub bad-needs : needsMore s st ≡ false
     unfolding needsMore leaves badReading noKeys
-    bad-needs = rw whole-bad (ap not (facts-hold (st .starts) (st .ends) 0 (omega arith) (omega arith)))
+    bad-needs = rw whole-bad (ap not (facts-hold (st .starts) (st .ends) (st .hashes) 0 (omega arith, omega arith, omega arith)))
 
-    pub bad-leaves : steppedOf s st ≡ lentState Done (st .html) (st .«check_duplicates») (replicate (length (st .starts)) 0) (replicate (length (st .ends)) 0) 0
+    pub bad-leaves : steppedOf s st ≡ lentState Done (st .html) (st .«check_duplicates») (replicate (length (st .starts)) 0) (replicate (length (st .ends)) 0) (replicate (length (st .hashes)) 0) 0
     unfolding steppedOf leaves badReading noKeys
-    bad-leaves = rw (whole-bad, take-zeros (length (st .starts)) capacity ls, take-zeros (length (st .ends)) capacity le)
+    bad-leaves = rw (whole-bad, take-zeros (length (st .starts)) capacity ls, take-zeros (length (st .ends)) capacity le, take-zeros (length (st .hashes)) capacity lh)
 
   -- a good one is read as the tables say
   module _ (good : stateGood s st ≡ true) where
-    good-holds : holds (st .starts) (st .ends) (st .count) ≡ true
+    good-holds : holds (st .starts) (st .ends) (st .hashes) (st .count) ≡ true
     unfolding stateGood
     good-holds =
-        let i = table-in (length s) (st .starts) (st .ends) (st .count) (both (tableGood (length s) (st .starts) (st .ends) (st .count)) (placeGood s (st .place)) good .0) in
-        facts-hold (st .starts) (st .ends) (st .count) (i .placed .0) (i .placed .1)
+        let i = table-in s (st .starts) (st .ends) (st .hashes) (st .count) (both (tableGood s (st .starts) (st .ends) (st .hashes) (st .count)) (placeGood s (st .place)) good .0) in
+        facts-hold (st .starts) (st .ends) (st .hashes) (st .count) (i .placed)
 
     module _ (x : Reading) (e : x ≡ stepOf s (st .html) (st .«check_duplicates») (keysOf st) (st .place)) where
       abbrev y : Reading
@@ -180,86 +186,86 @@ module _ (s : List ℕ) (st : IterState) (ls : length (st .starts) ≤ capacity)
       unfolding leaves
       good-answer = ap (λ (z : Step). z .answer) whole-steps ∙ sym (ap (λ (r : Reading). r .answer) same)
 
-      pub good-needs : needsMore s st ≡ not (holds (st .starts) (st .ends) (x .keys .count))
+      pub good-needs : needsMore s st ≡ not (holds (st .starts) (st .ends) (st .hashes) (x .keys .count))
       unfolding needsMore leaves
-      good-needs = rw whole-steps (ap (λ (r : Reading). not (holds (st .starts) (st .ends) (r .keys .count))) (sym same))
+      good-needs = rw whole-steps (ap (λ (r : Reading). not (holds (st .starts) (st .ends) (st .hashes) (r .keys .count))) (sym same))
 
-      pub good-leaves : steppedOf s st ≡ lentState (x .place) (st .html) (st .«check_duplicates») (x .keys .starts) (x .keys .ends) (x .keys .count)
+      pub good-leaves : steppedOf s st ≡ lentState (x .place) (st .html) (st .«check_duplicates») (x .keys .starts) (x .keys .ends) (x .keys .hashes) (x .keys .count)
       unfolding steppedOf leaves keysOf
-      good-leaves = rw whole-steps (ap (λ (r : Reading). lentState (r .place) (st .html) (st .«check_duplicates») (r .keys .starts) (r .keys .ends) (r .keys .count)) (sym same))
+      good-leaves = rw whole-steps (ap (λ (r : Reading). lentState (r .place) (st .html) (st .«check_duplicates») (r .keys .starts) (r .keys .ends) (r .keys .hashes) (r .keys .count)) (sym same))
 
 -- What `step_in` has done is that step, or it lacks a place.
-module _ (s : List ℕ) (place : Place) (html checks : Bool) (starts ends : List ℕ) (count : ℕ) where
+module _ (s : List ℕ) (place : Place) (html checks : Bool) (starts ends hashes : List ℕ) (count : ℕ) where
   abbrev stood : IterState
-  stood = lentState place html checks starts ends count
+  stood = lentState place html checks starts ends hashes count
 
   abbrev next : Reading
-  next = stepOf s html checks (keysLent starts ends count) place
+  next = stepOf s html checks (keysLent starts ends hashes count) place
 
-  module _ (ls : length starts ≤ capacity) (le : length ends ≤ capacity) (good : stateGood s stood ≡ true) (r : Stepped) (starts' ends' : List ℕ) (e : taken r starts' ends' count ≡ takenOn (keysLent starts ends count) next) where
-    by-holds : (t : Bool) → holds starts ends (next .keys .count) ≡ t → taken r starts' ends' count ≡ pick t (Took next) (Short (keysLent starts ends count))
+  module _ (ls : length starts ≤ capacity) (le : length ends ≤ capacity) (lh : length hashes ≤ capacity) (good : stateGood s stood ≡ true) (r : Stepped) (starts' ends' hashes' : List ℕ) (e : taken r starts' ends' hashes' count ≡ takenOn (keysLent starts ends hashes count) next) where
+    by-holds : (t : Bool) → holds starts ends hashes (next .keys .count) ≡ t → taken r starts' ends' hashes' count ≡ pick t (Took next) (Short (keysLent starts ends hashes count))
     unfolding takenOn
     by-holds t h = e ∙ rw h
 
-    is-made : (o : Advance) → r ≡ Made o → (holds starts ends (next .keys .count) ≡ true) × (advanced o starts' ends' ≡ next)
-    is-made o m = by (holds starts ends (next .keys .count)) refl where
-      by : (t : Bool) → holds starts ends (next .keys .count) ≡ t → (t ≡ true) × (advanced o starts' ends' ≡ next)
+    is-made : (o : Advance) → r ≡ Made o → (holds starts ends hashes (next .keys .count) ≡ true) × (advanced o starts' ends' hashes' ≡ next)
+    is-made o m = by (holds starts ends hashes (next .keys .count)) refl where
+      by : (t : Bool) → holds starts ends hashes (next .keys .count) ≡ t → (t ≡ true) × (advanced o starts' ends' hashes' ≡ next)
       by true h =
-          let w : taken r starts' ends' count ≡ Took (advanced o starts' ends') = ap (λ (x : Stepped). taken x starts' ends' count) m in
+          let w : taken r starts' ends' hashes' count ≡ Took (advanced o starts' ends' hashes') = ap (λ (x : Stepped). taken x starts' ends' hashes' count) m in
           let z = by-holds true h in
           (refl, cc)
       by false h =
-          let w : taken r starts' ends' count ≡ Took (advanced o starts' ends') = ap (λ (x : Stepped). taken x starts' ends' count) m in
+          let w : taken r starts' ends' hashes' count ≡ Took (advanced o starts' ends' hashes') = ap (λ (x : Stepped). taken x starts' ends' hashes' count) m in
           let z = by-holds false h in
           let n : _≡_ {A = ℕ} 0 1 = cc in
           absurd (omega arith)
 
-    is-short : r ≡ LendMore → (holds starts ends (next .keys .count) ≡ false) × (starts' ≡ starts) × (ends' ≡ ends)
-    is-short m = by (holds starts ends (next .keys .count)) refl where
-      by : (t : Bool) → holds starts ends (next .keys .count) ≡ t → (t ≡ false) × (starts' ≡ starts) × (ends' ≡ ends)
+    is-short : r ≡ LendMore → (holds starts ends hashes (next .keys .count) ≡ false) × (starts' ≡ starts) × (ends' ≡ ends) × (hashes' ≡ hashes)
+    is-short m = by (holds starts ends hashes (next .keys .count)) refl where
+      by : (t : Bool) → holds starts ends hashes (next .keys .count) ≡ t → (t ≡ false) × (starts' ≡ starts) × (ends' ≡ ends) × (hashes' ≡ hashes)
       by true h =
-          let w : taken r starts' ends' count ≡ Short (keysLent starts' ends' count) = ap (λ (x : Stepped). taken x starts' ends' count) m in
+          let w : taken r starts' ends' hashes' count ≡ Short (keysLent starts' ends' hashes' count) = ap (λ (x : Stepped). taken x starts' ends' hashes' count) m in
           let z = by-holds true h in
           let n : _≡_ {A = ℕ} 0 1 = cc in
           absurd (omega arith)
       by false h =
-          let w : taken r starts' ends' count ≡ Short (keysLent starts' ends' count) = ap (λ (x : Stepped). taken x starts' ends' count) m in
+          let w : taken r starts' ends' hashes' count ≡ Short (keysLent starts' ends' hashes' count) = ap (λ (x : Stepped). taken x starts' ends' hashes' count) m in
           let z = by-holds false h in
-          let q : keysLent starts' ends' count ≡ keysLent starts ends count = cc in
-          (refl, ap (λ (k : Keys). k .starts) q, ap (λ (k : Keys). k .ends) q)
+          let q : keysLent starts' ends' hashes' count ≡ keysLent starts ends hashes count = cc in
+          (refl, ap (λ (k : Keys). k .starts) q, ap (λ (k : Keys). k .ends) q, ap (λ (k : Keys). k .hashes) q)
 
     -- it was taken: the answer, what is left, and that is good again
     module _ (o : Advance) (m : r ≡ Made o) where
       pub made-held : needsMore s stood ≡ false
       unfolding keysOf
-      made-held = good-needs s stood ls le good next refl ∙ ap not (is-made o m .0)
+      made-held = good-needs s stood ls le lh good next refl ∙ ap not (is-made o m .0)
 
       pub made-answer : wholeNext s stood .answer ≡ o .answer
       unfolding keysOf
-      made-answer = good-answer s stood ls le good next refl ∙ sym (ap (λ (x : Reading). x .answer) (is-made o m .1))
+      made-answer = good-answer s stood ls le lh good next refl ∙ sym (ap (λ (x : Reading). x .answer) (is-made o m .1))
 
-      pub made-leaves : steppedOf s stood ≡ lentState (o .place) html checks starts' ends' (o .count)
+      pub made-leaves : steppedOf s stood ≡ lentState (o .place) html checks starts' ends' hashes' (o .count)
       unfolding keysOf
       made-leaves =
-          good-leaves s stood ls le good next refl
-          ∙ sym (ap (λ (x : Reading). lentState (x .place) html checks (x .keys .starts) (x .keys .ends) (x .keys .count)) (is-made o m .1))
+          good-leaves s stood ls le lh good next refl
+          ∙ sym (ap (λ (x : Reading). lentState (x .place) html checks (x .keys .starts) (x .keys .ends) (x .keys .hashes) (x .keys .count)) (is-made o m .1))
 
-      inside : KeysIn starts ends count (length s)
+      inside : KeysIn starts ends hashes count s
       unfolding stateGood
-      inside = table-in (length s) starts ends count (both (tableGood (length s) starts ends count) (placeGood s place) good .0)
+      inside = table-in s starts ends hashes count (both (tableGood s starts ends hashes count) (placeGood s place) good .0)
 
       placed : placeGood s place ≡ true
       unfolding stateGood
-      placed = both (tableGood (length s) starts ends count) (placeGood s place) good .1
+      placed = both (tableGood s starts ends hashes count) (placeGood s place) good .1
 
-      kept : Held s (keysLent starts ends count) (next .keys)
-      kept = step-keeps-held s checks (keysLent starts ends count) inside html place (is-made o m .0)
+      kept : Held s (keysLent starts ends hashes count) (next .keys)
+      kept = step-keeps-held s checks (keysLent starts ends hashes count) inside html place (is-made o m .0)
 
-      pub made-good : stateGood s (lentState (o .place) html checks starts' ends' (o .count)) ≡ true
+      pub made-good : stateGood s (lentState (o .place) html checks starts' ends' hashes' (o .count)) ≡ true
       unfolding stateGood
       made-good =
-          ap (λ (x : Reading). tableGood (length s) (x .keys .starts) (x .keys .ends) (x .keys .count) && placeGood s (x .place)) (is-made o m .1)
-          ∙ rw (in-table (length s) (next .keys .starts) (next .keys .ends) (next .keys .count) (kept .inside), step-stands s html checks (keysLent starts ends count) place placed)
+          ap (λ (x : Reading). tableGood s (x .keys .starts) (x .keys .ends) (x .keys .hashes) (x .keys .count) && placeGood s (x .place)) (is-made o m .1)
+          ∙ rw (in-table s (next .keys .starts) (next .keys .ends) (next .keys .hashes) (next .keys .count) (kept .inside), step-stands s html checks (keysLent starts ends hashes count) place placed)
 
       pub made-starts : length starts' ≡ length starts
       made-starts = ap (λ (x : Reading). length (x .keys .starts)) (is-made o m .1) ∙ kept .starts
@@ -267,11 +273,14 @@ module _ (s : List ℕ) (place : Place) (html checks : Bool) (starts ends : List
       pub made-ends : length ends' ≡ length ends
       made-ends = ap (λ (x : Reading). length (x .keys .ends)) (is-made o m .1) ∙ kept .ends
 
+      pub made-hashes : length hashes' ≡ length hashes
+      made-hashes = ap (λ (x : Reading). length (x .keys .hashes)) (is-made o m .1) ∙ kept .hashes
+
     -- it was not: a place is lacking, and nothing has changed
     module _ (m : r ≡ LendMore) where
       pub more-needs : needsMore s stood ≡ true
       unfolding keysOf
-      more-needs = good-needs s stood ls le good next refl ∙ ap not (is-short m .0)
+      more-needs = good-needs s stood ls le lh good next refl ∙ ap not (is-short m .0)
 
       pub more-starts : starts' ≡ starts
       more-starts = is-short m .1
@@ -279,30 +288,33 @@ module _ (s : List ℕ) (place : Place) (html checks : Bool) (starts ends : List
       pub more-ends : ends' ≡ ends
       more-ends = is-short m .2
 
+      pub more-hashes : hashes' ≡ hashes
+      more-hashes = is-short m .3
+
 -- Tables of full size are the iterator's own: no place is ever lacking, and a step is `nextOf`.
 
 pub whole-full : (st : IterState) → Sized st → wholeOf st ≡ st
 unfolding wholeOf
-whole-full st z = rw (pad-full capacity (st .starts) (z .starts), pad-full capacity (st .ends) (z .ends))
+whole-full st z = rw (pad-full capacity (st .starts) (z .starts), pad-full capacity (st .ends) (z .ends), pad-full capacity (st .hashes) (z .hashes))
 
 module _ (s : List ℕ) (st : IterState) (z : Sized st) where
   pub full-next : wholeNext s st ≡ nextOf s st
   unfolding wholeNext
   full-next = by (stateGood s st) refl where
-    by : (t : Bool) → stateGood s st ≡ t → pick (holds (st .starts) (st .ends) (st .count)) (nextOf s (wholeOf st)) (leaves st badReading) ≡ nextOf s st
-    by true good = rw (good-holds s st (omega (arith, z .starts)) (omega (arith, z .ends)) good, whole-full st z)
-    by false bad = whole-bad s st (omega (arith, z .starts)) (omega (arith, z .ends)) bad ∙ next-bad s st bad
+    by : (t : Bool) → stateGood s st ≡ t → pick (holds (st .starts) (st .ends) (st .hashes) (st .count)) (nextOf s (wholeOf st)) (leaves st badReading) ≡ nextOf s st
+    by true good = rw (good-holds s st (omega (arith, z .starts)) (omega (arith, z .ends)) (omega (arith, z .hashes)) good, whole-full st z)
+    by false bad = whole-bad s st (omega (arith, z .starts)) (omega (arith, z .ends)) (omega (arith, z .hashes)) bad ∙ next-bad s st bad
 
   pub full-held : needsMore s st ≡ false
   unfolding needsMore stateGood
   full-held =
       let y = nextOf s st .state in
-      let i = table-in (length s) (y .starts) (y .ends) (y .count) (both (tableGood (length s) (y .starts) (y .ends) (y .count)) (placeGood s (y .place)) (next-stays-good s st z) .0) in
-      rw full-next (ap not (facts-hold (st .starts) (st .ends) (y .count) (omega (arith, i .few, z .starts)) (omega (arith, i .few, z .ends))))
+      let i = table-in s (y .starts) (y .ends) (y .hashes) (y .count) (both (tableGood s (y .starts) (y .ends) (y .hashes) (y .count)) (placeGood s (y .place)) (next-stays-good s st z) .0) in
+      rw full-next (ap not (facts-hold (st .starts) (st .ends) (st .hashes) (y .count) (omega (arith, i .few, z .starts), omega (arith, i .few, z .ends), omega (arith, i .few, z .hashes))))
 
   pub full-leaves : steppedOf s st ≡ nextOf s st .state
   unfolding steppedOf
   full-leaves =
       let y = nextOf s st .state in
       let w = next-sized s st z in
-      rw (full-next, take-all (length (st .starts)) (y .starts) (omega (arith, z .starts, w .starts)), take-all (length (st .ends)) (y .ends) (omega (arith, z .ends, w .ends)))
+      rw (full-next, take-all (length (st .starts)) (y .starts) (omega (arith, z .starts, w .starts)), take-all (length (st .ends)) (y .ends) (omega (arith, z .ends, w .ends)), take-all (length (st .hashes)) (y .hashes) (omega (arith, z .hashes, w .hashes)))

@@ -69,12 +69,12 @@ module _ (s : List ℕ) (html : Bool) (keys other : Keys) where
 
 standing-sized : (place : Place) (html checks : Bool) → Sized (standing place html checks)
 unfolding noKeys opened
-standing-sized place html checks = record { starts = opened-sized 0 html checks .starts; ends = opened-sized 0 html checks .ends }
+standing-sized place html checks = record { starts = opened-sized 0 html checks .starts; ends = opened-sized 0 html checks .ends; hashes = opened-sized 0 html checks .hashes }
 
 module _ (s : List ℕ) (html : Bool) (place : Place) (stands : placeGood s place ≡ true) where
   standing-good : (checks : Bool) → stateGood s (standing place html checks) ≡ true
   unfolding stateGood noKeys
-  standing-good checks = rw (in-table (length s) (noKeys .starts) (noKeys .ends) (noKeys .count) (keys-none (noKeys .starts) (noKeys .ends) (length s)), stands)
+  standing-good checks = rw (in-table s (noKeys .starts) (noKeys .ends) (noKeys .hashes) (noKeys .count) (keys-none (noKeys .starts) (noKeys .ends) (noKeys .hashes) s), stands)
 
   -- the definition is the step on no recorded keys
   pub unchecked-is : found (stepOf s html false noKeys place .answer) (stepOf s html false noKeys place .place) ≡ uncheckedOf s html place
@@ -86,21 +86,21 @@ module _ (s : List ℕ) (html : Bool) (place : Place) (stands : placeGood s plac
   unchecked-steps keys x e = ap (λ (r : Reading). found (r .answer) (r .place)) (e ∙ off-step s html keys noKeys place) ∙ unchecked-is
 
   -- what `step_in` does on tables with no recorded keys: it asks for nothing else, and is always taken
-  module _ (starts ends : List ℕ) where
-    none : KeysIn starts ends 0 (length s)
-    none = keys-none starts ends (length s)
+  module _ (starts ends hashes : List ℕ) where
+    none : KeysIn starts ends hashes 0 s
+    none = keys-none starts ends hashes s
 
-    no-room : KeyRoom false starts ends
+    no-room : KeyRoom false starts ends hashes
     no-room = record { room = λ on. absurd (false≢true on) }
 
-    module _ (r : Stepped) (starts' ends' : List ℕ) (e : taken r starts' ends' 0 ≡ stepIn s html false (keysLent starts ends 0) place) where
+    module _ (r : Stepped) (starts' ends' hashes' : List ℕ) (e : taken r starts' ends' hashes' 0 ≡ stepIn s html false (keysLent starts ends hashes 0) place) where
       pub unchecked-made : (o : Advance) → r ≡ Made o → found (o .answer) (o .place) ≡ uncheckedOf s html place
       unchecked-made o m =
-          unchecked-steps (keysLent starts ends 0) (advanced o starts' ends')
-          (room-made s false (keysLent starts ends 0) none no-room html place r o starts' ends' e m)
+          unchecked-steps (keysLent starts ends hashes 0) (advanced o starts' ends' hashes')
+          (room-made s false (keysLent starts ends hashes 0) none no-room html place r o starts' ends' hashes' e m)
 
       pub unchecked-never : r ≡ LendMore → ⊥
-      unchecked-never m = room-never s false (keysLent starts ends 0) none no-room html place r starts' ends' e m
+      unchecked-never m = room-never s false (keysLent starts ends hashes 0) none no-room html place r starts' ends' hashes' e m
 
   -- the place that is left is good again
   pub unchecked-stands : placeGood s (uncheckedOf s html place .place) ≡ true

@@ -9,11 +9,12 @@ use lib.ListN.{length, getD}
 use lib.Dec.{eqb, ltb, leb}
 use borrow.Author.Tests.{ltb-true, leb-true}
 use Rattle.scan.specs.First.{firstFrom, pick}
-use Rattle.scan.specs.Bytes.{isSpace, notSpace, endsKey}
+use Rattle.scan.specs.Bytes.{isSpace, notSpace, endsKey, part}
 use Rattle.scan.proofs.Laws.{first, picks}
 use Rattle.scan.proofs.Bytes.{both}
 use Rattle.tag_keys.specs.declared.Checked.{Checked}
 use Rattle.tag_keys.specs.declared.Checked.the-variants.{Fresh, Same, Full}
+use Rattle.tag_keys.specs.Hash.{hashOf}
 use Rattle.tag_keys.specs.Keys.{KeysIn, tableGood, checkedOf, writtenBy, countBy}
 use Rattle.tag_keys.proofs.Laws.{table-in}
 use Rattle.tag_step.specs.declared.Span.{Span}
@@ -40,34 +41,35 @@ unfolding bareOf
 bare-xml s html checks keys key at off p e = rw (off, e)
 
 -- a key that was checked, v the verdict, and what is in the tables then
-module _ (s : List ℕ) (html checks : Bool) (starts ends : List ℕ) (count : ℕ) (key : Span) (at : ℕ) (v : Checked) (starts' ends' : List ℕ)
+module _ (s : List ℕ) (html checks : Bool) (starts ends hashes : List ℕ) (count : ℕ) (key : Span) (at : ℕ) (v : Checked) (starts' ends' hashes' : List ℕ)
     (verdict : v ≡ checkedOf s checks starts ends count (key .start) (key .end))
     (in-starts : starts' ≡ writtenBy checks v starts count (key .start))
-    (in-ends : ends' ≡ writtenBy checks v ends count (key .end)) where
+    (in-ends : ends' ≡ writtenBy checks v ends count (key .end))
+    (in-hashes : hashes' ≡ writtenBy checks v hashes count (hashOf (part s (key .start) (key .end)))) where
   module _ (on : html ≡ true) (p : Place) (there : p ≡ placeAt s at) where
-    pub bare-fresh : (n : ℕ) → v ≡ Fresh n → advanced (outcome (Empty key) p n) starts' ends' ≡ bareOf s html checks (keysLent starts ends count) key at
+    pub bare-fresh : (n : ℕ) → v ≡ Fresh n → advanced (outcome (Empty key) p n) starts' ends' hashes' ≡ bareOf s html checks (keysLent starts ends hashes count) key at
     unfolding bareOf bareTo bareBy keptBy checkOf countBy
-    bare-fresh n e = rw (on, sym verdict, in-starts, in-ends, e, there)
+    bare-fresh n e = rw (on, sym verdict, in-starts, in-ends, in-hashes, e, there)
 
-    pub bare-same : (q : ℕ) → v ≡ Same q → advanced (outcome (Duplicated (key .start) q) p count) starts' ends' ≡ bareOf s html checks (keysLent starts ends count) key at
+    pub bare-same : (q : ℕ) → v ≡ Same q → advanced (outcome (Duplicated (key .start) q) p count) starts' ends' hashes' ≡ bareOf s html checks (keysLent starts ends hashes count) key at
     unfolding bareOf bareTo bareBy keptBy checkOf countBy
-    bare-same q e = rw (on, sym verdict, in-starts, in-ends, e, there)
+    bare-same q e = rw (on, sym verdict, in-starts, in-ends, in-hashes, e, there)
 
-    pub bare-full : v ≡ Full → advanced (outcome (KeyTableFull (key .start)) Done count) starts' ends' ≡ bareOf s html checks (keysLent starts ends count) key at
+    pub bare-full : v ≡ Full → advanced (outcome (KeyTableFull (key .start)) Done count) starts' ends' hashes' ≡ bareOf s html checks (keysLent starts ends hashes count) key at
     unfolding bareOf bareTo bareBy keptBy checkOf countBy
-    bare-full e = rw (on, sym verdict, in-starts, in-ends, e)
+    bare-full e = rw (on, sym verdict, in-starts, in-ends, in-hashes, e)
 
-  pub valued-fresh : (n : ℕ) → v ≡ Fresh n → (x : Found) → x ≡ valueAt s html key at → advanced (outcome (x .answer) (x .place) n) starts' ends' ≡ valuedOf s html checks (keysLent starts ends count) key at
+  pub valued-fresh : (n : ℕ) → v ≡ Fresh n → (x : Found) → x ≡ valueAt s html key at → advanced (outcome (x .answer) (x .place) n) starts' ends' hashes' ≡ valuedOf s html checks (keysLent starts ends hashes count) key at
   unfolding valuedOf valuedTo valuedBy keptBy checkOf countBy
-  valued-fresh n e x f = rw (sym verdict, in-starts, in-ends, e, f)
+  valued-fresh n e x f = rw (sym verdict, in-starts, in-ends, in-hashes, e, f)
 
-  pub valued-same : (q : ℕ) → v ≡ Same q → advanced (outcome (Duplicated (key .start) q) (SkipEqValue at) count) starts' ends' ≡ valuedOf s html checks (keysLent starts ends count) key at
+  pub valued-same : (q : ℕ) → v ≡ Same q → advanced (outcome (Duplicated (key .start) q) (SkipEqValue at) count) starts' ends' hashes' ≡ valuedOf s html checks (keysLent starts ends hashes count) key at
   unfolding valuedOf valuedTo valuedBy keptBy checkOf countBy
-  valued-same q e = rw (sym verdict, in-starts, in-ends, e)
+  valued-same q e = rw (sym verdict, in-starts, in-ends, in-hashes, e)
 
-  pub valued-full : v ≡ Full → advanced (outcome (KeyTableFull (key .start)) Done count) starts' ends' ≡ valuedOf s html checks (keysLent starts ends count) key at
+  pub valued-full : v ≡ Full → advanced (outcome (KeyTableFull (key .start)) Done count) starts' ends' hashes' ≡ valuedOf s html checks (keysLent starts ends hashes count) key at
   unfolding valuedOf valuedTo valuedBy keptBy checkOf countBy
-  valued-full e = rw (sym verdict, in-starts, in-ends, e)
+  valued-full e = rw (sym verdict, in-starts, in-ends, in-hashes, e)
 
 -- the step
 
@@ -94,18 +96,18 @@ module _ (s : List ℕ) (html checks : Bool) (keys : Keys) (place : Place) where
     step-valued key eq e = sym (sym step-reads ∙ rw e)
 
 -- What is good: a law for each `return` of `good_in`.
-module _ (s starts ends : List ℕ) (count : ℕ) (place : Place) where
-  pub good-keys : tableGood (length s) starts ends count ≡ false → false ≡ goodOf s (keysLent starts ends count) place
+module _ (s starts ends hashes : List ℕ) (count : ℕ) (place : Place) where
+  pub good-keys : tableGood s starts ends hashes count ≡ false → false ≡ goodOf s (keysLent starts ends hashes count) place
   good-keys k = rw k
 
-  pub good-place : tableGood (length s) starts ends count ≡ true → placeGood s place ≡ goodOf s (keysLent starts ends count) place
+  pub good-place : tableGood s starts ends hashes count ≡ true → placeGood s place ≡ goodOf s (keysLent starts ends hashes count) place
   good-place k = rw k
 
 -- the recorded keys of a good state lie in the tag, as `step_in` asks
-pub good-inside : (s : List ℕ) (keys : Keys) (place : Place) → goodOf s keys place ≡ true → KeysIn (keys .starts) (keys .ends) (keys .count) (length s)
+pub good-inside : (s : List ℕ) (keys : Keys) (place : Place) → goodOf s keys place ≡ true → KeysIn (keys .starts) (keys .ends) (keys .hashes) (keys .count) s
 good-inside s keys place g =
-    table-in (length s) (keys .starts) (keys .ends) (keys .count)
-    (both (tableGood (length s) (keys .starts) (keys .ends) (keys .count)) (placeGood s place) g .0)
+    table-in s (keys .starts) (keys .ends) (keys .hashes) (keys .count)
+    (both (tableGood s (keys .starts) (keys .ends) (keys .hashes) (keys .count)) (placeGood s place) g .0)
 
 -- `next`
 

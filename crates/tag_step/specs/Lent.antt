@@ -20,35 +20,40 @@ use Rattle.tag_step.specs.Next.{Keys, Reading, keysLent, advanced, bareO
 -- are not lent: zeros, as 7 leaves them.
 unfoldable pub wholeOf : IterState → IterState
 wholeOf st =
-    lentState (st .place) (st .html) (st .«check_duplicates») (padTo capacity (st .starts)) (padTo capacity (st .ends)) (st .count)
+    lentState (st .place) (st .html) (st .«check_duplicates») (padTo capacity (st .starts)) (padTo capacity (st .ends)) (padTo capacity (st .hashes)) (st .count)
 
--- Its step. Tables of unequal lengths count as long as the shorter one, and a count past that is 7.
+-- Its step. Tables of unequal lengths count as long as the shortest one, and a count past that is 7.
 unfoldable pub wholeNext : List ℕ → IterState → Step
-wholeNext s st = pick (holds (st .starts) (st .ends) (st .count)) (nextOf s (wholeOf st)) (leaves st badReading)
+wholeNext s st = pick (holds (st .starts) (st .ends) (st .hashes) (st .count)) (nextOf s (wholeOf st)) (leaves st badReading)
 
 -- It records a key past what is lent. Refusals never do, nor does any step while checks are off.
 unfoldable pub needsMore : List ℕ → IterState → Bool
-needsMore s st = not (holds (st .starts) (st .ends) (wholeNext s st .state .count))
+needsMore s st = not (holds (st .starts) (st .ends) (st .hashes) (wholeNext s st .state .count))
 
 -- what it leaves of the lent tables
 unfoldable pub steppedOf : List ℕ → IterState → IterState
 steppedOf s st =
     let y = wholeNext s st .state in
     lentState (y .place) (y .html) (y .«check_duplicates») (take (length (st .starts)) (y .starts))
-    (take (length (st .ends)) (y .ends)) (y .count)
+    (take (length (st .ends)) (y .ends)) (take (length (st .hashes)) (y .hashes)) (y .count)
 
 -- What a step on lent tables does: it is taken, or is not, and then the tables stay as they were.
 pub data Taken : Type 0 where
   Took : Reading → Taken
   Short : Keys → Taken
 
-abbrev pub taken : Stepped → (starts ends : List ℕ) → ℕ → Taken
-taken (Made o) starts ends count = Took (advanced o starts ends)
-taken LendMore starts ends count = Short (keysLent starts ends count)
+abbrev pub taken : Stepped → (starts ends hashes : List ℕ) → ℕ → Taken
+taken (Made o) starts ends hashes count = Took (advanced o starts ends hashes)
+taken LendMore starts ends hashes count = Short (keysLent starts ends hashes count)
+
+-- how many keys are recorded then
+abbrev pub keptIn : Stepped → ℕ → ℕ
+keptIn (Made o) count = o .count
+keptIn LendMore count = count
 
 -- A step that leaves more keys than the tables hold is not taken.
 unfoldable pub takenOn : Keys → Reading → Taken
-takenOn keys x = pick (holds (keys .starts) (keys .ends) (x .keys .count)) (Took x) (Short keys)
+takenOn keys x = pick (holds (keys .starts) (keys .ends) (keys .hashes) (x .keys .count)) (Took x) (Short keys)
 
 abbrev pub bareIn : List ℕ → Bool → Bool → Keys → Span → ℕ → Taken
 bareIn s html checks keys key at = takenOn keys (bareOf s html checks keys key at)

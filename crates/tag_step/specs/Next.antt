@@ -6,8 +6,10 @@ use mathlib.Core.List.{List}
 use lib.ListN.{length, replicate}
 use lib.Dec.{ltb}
 use Rattle.scan.specs.First.{pick}
+use Rattle.scan.specs.Bytes.{part}
 use Rattle.tag_keys.specs.declared.Checked.{Checked}
 use Rattle.tag_keys.specs.declared.Checked.the-variants.{Fresh, Same, Full}
+use Rattle.tag_keys.specs.Hash.{hashOf}
 use Rattle.tag_keys.specs.Keys.{capacity, tableGood, checkedOf, writtenBy, countBy}
 use Rattle.tag_step.specs.declared.Span.{Span}
 use Rattle.tag_step.specs.declared.Place.{Place}
@@ -21,13 +23,15 @@ use Rattle.tag_step.specs.declared.Answer.the-variants.{End, Empty, Expe
 use Rattle.tag_step.specs.declared.Found.{Found}
 use Rattle.tag_step.specs.declared.Advance.{Advance}
 use Rattle.tag_step.specs.declared.IterState.{IterState}
+use Rattle.tag_step.specs.declared.Standing.{Standing}
 use Rattle.tag_step.specs.declared.Step.{Step}
 use Rattle.tag_step.specs.Read.{found, isAt, recoverOf, keyAt, valueAt}
 
--- the recorded keys: a table of starts, one of ends, and how many of their places are in use
+-- the recorded keys: a table of starts, one of ends, one of hashes, and how many of their places are in use
 pub record Keys : Type 0 where
   pub starts : List ℕ
   pub ends : List ℕ
+  pub hashes : List ℕ
   pub count : ℕ
 
 -- what reading gives: the answer, the place that it leaves, and the recorded keys
@@ -40,23 +44,25 @@ abbrev pub reading : Found → Keys → Reading
 reading x keys = record { answer = x .answer; place = x .place; keys = keys }
 
 -- lent tables with their count, and what a step on them has made once it returns
-abbrev pub keysLent : List ℕ → List ℕ → ℕ → Keys
-keysLent starts ends count = record { starts = starts; ends = ends; count = count }
+abbrev pub keysLent : (starts ends hashes : List ℕ) → ℕ → Keys
+keysLent starts ends hashes count = record { starts = starts; ends = ends; hashes = hashes; count = count }
 
-abbrev pub advanced : Advance → List ℕ → List ℕ → Reading
-advanced o starts ends = record { answer = o .answer; place = o .place; keys = keysLent starts ends (o .count) }
+abbrev pub advanced : Advance → (starts ends hashes : List ℕ) → Reading
+advanced o starts ends hashes =
+    record { answer = o .answer; place = o .place; keys = keysLent starts ends hashes (o .count) }
 
 -- The check of a key.
 
 unfoldable pub checkOf : List ℕ → Bool → Keys → Span → Checked
 checkOf s checks keys key = checkedOf s checks (keys .starts) (keys .ends) (keys .count) (key .start) (key .end)
 
--- the recorded keys after a verdict
-unfoldable pub keptBy : Bool → Keys → Span → Checked → Keys
-keptBy checks keys key c =
+-- the recorded keys after a verdict: a new one is kept with the hash of its bytes
+unfoldable pub keptBy : List ℕ → Bool → Keys → Span → Checked → Keys
+keptBy s checks keys key c =
     record {
       starts = writtenBy checks c (keys .starts) (keys .count) (key .start);
       ends = writtenBy checks c (keys .ends) (keys .count) (key .end);
+      hashes = writtenBy checks c (keys .hashes) (keys .count) (hashOf (part s (key .start) (key .end)));
       count = countBy c (keys .count);
     }
 
@@ -73,7 +79,7 @@ bareBy s key at (Same earlier) = found (Duplicated (key .start) earlier) (placeA
 bareBy s key at Full = found (KeyTableFull (key .start)) Done
 
 unfoldable pub bareTo : List ℕ → Bool → Keys → Span → ℕ → Checked → Reading
-bareTo s checks keys key at c = reading (bareBy s key at c) (keptBy checks keys key c)
+bareTo s checks keys key at c = reading (bareBy s key at c) (keptBy s checks keys key c)
 
 -- XML mode answers 1 without recording.
 unfoldable pub bareOf : List ℕ → Bool → Bool → Keys → Span → ℕ → Reading
@@ -89,7 +95,7 @@ valuedBy s html key eq (Same earlier) = found (Duplicated (key .start) earlier) 
 valuedBy s html key eq Full = found (KeyTableFull (key .start)) Done
 
 unfoldable pub valuedTo : List ℕ → Bool → Bool → Keys → Span → ℕ → Checked → Reading
-valuedTo s html checks keys key eq c = reading (valuedBy s html key eq c) (keptBy checks keys key c)
+valuedTo s html checks keys key eq c = reading (valuedBy s html key eq c) (keptBy s checks keys key c)
 
 -- With `=` found, the key is checked and recorded before its value is looked at.
 unfoldable pub valuedOf : List ℕ → Bool → Bool → Keys → Span → ℕ → Reading
@@ -126,23 +132,28 @@ placeGood s (SkipValue o) = ltb o (length s)
 placeGood s (SkipEqValue o) = isAt s 61 o
 
 -- the iterator of these parts, its tables lent or its own
-abbrev pub lentState : Place → Bool → Bool → (starts ends : List ℕ) → ℕ → IterState
-lentState place html checks starts ends count =
-    record { place = place; html = html; «check_duplicates» = checks; starts = starts; ends = ends; count = count }
+abbrev pub lentState : Place → Bool → Bool → (starts ends hashes : List ℕ) → ℕ → IterState
+lentState place html checks starts ends hashes count =
+    record { place = place; html = html; «check_duplicates» = checks; starts = starts; ends = ends; hashes = hashes; count = count }
+
+-- the same by what an iterator has beside its tables
+abbrev pub standsAt : Standing → (starts ends hashes : List ℕ) → IterState
+standsAt at starts ends hashes = lentState (at .place) (at .html) (at .checks) starts ends hashes (at .count)
 
 unfoldable pub keysOf : IterState → Keys
-keysOf st = keysLent (st .starts) (st .ends) (st .count)
+keysOf st = keysLent (st .starts) (st .ends) (st .hashes) (st .count)
 
--- There are at most 256 keys, each not empty and inside the tag, and the place is good: whatever the checks say.
+-- There are at most as many keys as the capacity, each not empty, inside the tag and with its own hash, and the place is good:
+-- whatever the checks say.
 abbrev pub goodOf : List ℕ → Keys → Place → Bool
-goodOf s keys place = tableGood (length s) (keys .starts) (keys .ends) (keys .count) && placeGood s place
+goodOf s keys place = tableGood s (keys .starts) (keys .ends) (keys .hashes) (keys .count) && placeGood s place
 
 unfoldable pub stateGood : List ℕ → IterState → Bool
-stateGood s st = goodOf s (keysLent (st .starts) (st .ends) (st .count)) (st .place)
+stateGood s st = goodOf s (keysLent (st .starts) (st .ends) (st .hashes) (st .count)) (st .place)
 
 -- no recorded keys, every place of the tables zero
 unfoldable pub noKeys : Keys
-noKeys = record { starts = replicate capacity 0; ends = replicate capacity 0; count = 0 }
+noKeys = record { starts = replicate capacity 0; ends = replicate capacity 0; hashes = replicate capacity 0; count = 0 }
 
 -- 7 leaves done and no recorded keys.
 unfoldable pub badReading : Reading
@@ -161,6 +172,7 @@ leaves st x =
         «check_duplicates» = st .«check_duplicates»;
         starts = x .keys .starts;
         ends = x .keys .ends;
+        hashes = x .keys .hashes;
         count = x .keys .count;
       };
     }
@@ -172,7 +184,7 @@ nextOf s st =
 
 -- an iterator that stands at a place, with no recorded keys
 abbrev pub standing : Place → Bool → Bool → IterState
-standing place html checks = lentState place html checks (noKeys .starts) (noKeys .ends) (noKeys .count)
+standing place html checks = lentState place html checks (noKeys .starts) (noKeys .ends) (noKeys .hashes) (noKeys .count)
 
 -- one that is opened at position o
 unfoldable pub opened : ℕ → Bool → Bool → IterState
@@ -192,5 +204,6 @@ withChecks checks st =
       «check_duplicates» = checks;
       starts = st .starts;
       ends = st .ends;
+      hashes = st .hashes;
       count = st .count;
     }

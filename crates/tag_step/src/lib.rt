@@ -4,7 +4,7 @@
 // specs/Next.antt, for every tag and every state. The work is done on tables that the caller lends (`step_in`,
 // after the test of refusal 7, `good_in`); `IterState::next` lends its own.
 //
-// The names are the crate's. Its `keys: Vec<Range<usize>>` is two tables and a count here, its `Option` and `Result` an
+// The names are the crate's. Its `keys: Vec<Range<usize>>` is three tables and a count here, its `Option` and `Result` an
 // enum for each kind of answer. Documents number the refusals: `numbersOf` (specs/Numbers.antt) gives an answer's number
 // and values.
 ghost use mathlib.Core.Path.{_≡_};
@@ -13,11 +13,14 @@ ghost use Prim.Native.Nat.{_+_, _^_, _<_, _≤_};
 ghost use lib.ListN.{length, replicate};
 ghost use Rattle.tag_step.specs.Numbers.{numberedStep};
 ghost use Rattle.tag_step.specs.Read.{isQuote, skipOf, recoverOf, keyAt, closedOf, quotedOf, valueAt};
-ghost use Rattle.tag_step.specs.Next.{keysLent, lentState, advanced, leaves, placeAt, placeGood, goodOf, nextOf, uncheckedOf, opened, withChecks};
-ghost use Rattle.tag_step.specs.Lent.{taken, bareIn, valuedIn, stepIn};
+ghost use Rattle.tag_step.specs.Next.{keysLent, standsAt, advanced, leaves, placeAt, placeGood, goodOf, nextOf, uncheckedOf, opened, withChecks};
+ghost use Rattle.tag_step.specs.Lent.{taken, keptIn, bareIn, valuedIn, stepIn};
+ghost use Rattle.tag_keys.specs.Sieve.{sieveLeft, SieveOf};
 ghost use Rattle.tag_keys.specs.Keys.{capacity, KeysIn};
 use tag_keys::CAPACITY;
 use tag_keys::Checked;
+use tag_keys::Hashed;
+use tag_keys::SIEVE_WORDS;
 
 // Where a key or a value stands in the tag: `Range<usize>` of the crate, the end not included.
 pub struct Span {
@@ -60,19 +63,29 @@ pub enum Answer {
     // 5: `key="1" key="2"`: where this key and the earlier one begin; reading goes on at the first whitespace after the
     // `=`, also where it stands in the value.
     Duplicated(usize, usize),
-    // 6: 256 keys are recorded, and another one is due: where it begins.
+    // 6: as many keys are recorded as can be, and another one is due: where it begins.
     KeyTableFull(usize),
     // 7: a state that no reading of this tag leaves.
     BadState,
 }
 
-// The state of an iterator: `IterState` of the crate. The recorded keys are the first `count` of `starts` and `ends`.
+// The state of an iterator: `IterState` of the crate. The recorded keys are the first `count` of `starts`, `ends` and `hashes`.
 pub struct IterState {
     pub place: Place,
     pub html: bool,
     pub check_duplicates: bool,
     pub starts: [usize; CAPACITY],
     pub ends: [usize; CAPACITY],
+    pub hashes: [u32; CAPACITY],
+    pub count: usize,
+}
+
+// What an iterator has beside its key tables.
+pub struct Standing {
+    pub place: Place,
+    pub html: bool,
+    pub checks: bool,
+    // how many keys are recorded
     pub count: usize,
 }
 
@@ -310,12 +323,13 @@ pub fn good_in<'a>(
     tag: &[u8],
     starts: &'a [usize],
     ends: &'a [usize],
+    hashes: &'a [u32],
     count: usize,
     place: Place,
 ) -> bool
-    ensures { λ r. ⌜ r ≡ goodOf (now (tag .entry)) (keysLent (now (starts .entry)) (now (ends .entry)) count) place ⌝ }
+    ensures { λ r. ⌜ r ≡ goodOf (now (tag .entry)) (keysLent (now (starts .entry)) (now (ends .entry)) (now (hashes .entry)) count) place ⌝ }
 {
-    if !tag_keys::keys_good(tag.len(), starts, ends, count) {
+    if !tag_keys::keys_good(tag, starts, ends, hashes, count) {
         return false;
     }
     place_good(tag, place)
@@ -330,27 +344,38 @@ fn key_only<'a>(
     tag: &[u8],
     starts: &'a mut [usize],
     ends: &'a mut [usize],
-    html: bool,
-    checks: bool,
-    count: usize,
+    hashes: &'a mut [u32],
+    sieve: &'a mut [u64],
+    at: Standing,
     key: Span,
     offset: usize,
 ) -> Stepped
-    requires { ⌜ KeysIn (now starts) (now ends) count (length (now tag)) ⌝ }
+    requires { ⌜ KeysIn (now starts) (now ends) (now hashes) (at .count) (now tag) ⌝ }
     requires { ⌜ (key .start < key .end) × (key .end ≤ length (now tag)) ⌝ }
-    ensures { λ r. ⌜ taken r (now (starts .exit)) (now (ends .exit)) count ≡ bareIn (now (tag .entry)) html checks (keysLent (now (starts .entry)) (now (ends .entry)) count) key offset ⌝ }
+    requires { ⌜ SieveOf (at .checks) (now sieve) (now hashes) (at .count) ⌝ }
+    ensures { λ r.
+        ⌜ (taken r (now (starts .exit)) (now (ends .exit)) (now (hashes .exit)) (at .count) ≡ bareIn (now (tag .entry)) (at .html) (at .checks) (keysLent (now (starts .entry)) (now (ends .entry)) (now (hashes .entry)) (at .count)) key offset)
+        × (now (sieve .exit) ≡ sieveLeft (at .checks) (now (sieve .entry)) (now (hashes .exit)) (keptIn r (at .count))) ⌝ }
 {
+    let count = at.count;
     let place = place_at(tag, offset);
-    if !html {
+    if !at.html {
         return Stepped::Made(Advance {
             answer: Answer::ExpectedEq(offset),
             place: place,
             count: count,
         });
     }
-    match tag_keys::check_for_duplicates(tag, starts, ends, checks, count, key.start, key.end) {
+    let checks = at.checks;
+    let hash = tag_keys::hash_for(tag, checks, key.start, key.end);
+    let hashed = Hashed {
+        start: key.start,
+        end: key.end,
+        hash: hash,
+    };
+    match tag_keys::check_unsifted(tag, starts, ends, hashes, checks, count, hashed) {
         Checked::Fresh(more) => {
-            if !tag_keys::record_key(starts, ends, checks, count, key.start, key.end) {
+            if !tag_keys::record_key(starts, ends, hashes, sieve, checks, count, hashed) {
                 return Stepped::LendMore;
             }
             Stepped::Made(Advance {
@@ -377,23 +402,34 @@ fn key_valued<'a>(
     tag: &[u8],
     starts: &'a mut [usize],
     ends: &'a mut [usize],
-    html: bool,
-    checks: bool,
-    count: usize,
+    hashes: &'a mut [u32],
+    sieve: &'a mut [u64],
+    at: Standing,
     key: Span,
     eq: usize,
 ) -> Stepped
-    requires { ⌜ KeysIn (now starts) (now ends) count (length (now tag)) ⌝ }
+    requires { ⌜ KeysIn (now starts) (now ends) (now hashes) (at .count) (now tag) ⌝ }
     requires { ⌜ (key .start < key .end) × (key .end ≤ length (now tag)) ⌝ }
     requires { ⌜ eq < length (now tag) ⌝ }
-    ensures { λ r. ⌜ taken r (now (starts .exit)) (now (ends .exit)) count ≡ valuedIn (now (tag .entry)) html checks (keysLent (now (starts .entry)) (now (ends .entry)) count) key eq ⌝ }
+    requires { ⌜ SieveOf (at .checks) (now sieve) (now hashes) (at .count) ⌝ }
+    ensures { λ r.
+        ⌜ (taken r (now (starts .exit)) (now (ends .exit)) (now (hashes .exit)) (at .count) ≡ valuedIn (now (tag .entry)) (at .html) (at .checks) (keysLent (now (starts .entry)) (now (ends .entry)) (now (hashes .entry)) (at .count)) key eq)
+        × (now (sieve .exit) ≡ sieveLeft (at .checks) (now (sieve .entry)) (now (hashes .exit)) (keptIn r (at .count))) ⌝ }
 {
-    match tag_keys::check_for_duplicates(tag, starts, ends, checks, count, key.start, key.end) {
+    let checks = at.checks;
+    let count = at.count;
+    let hash = tag_keys::hash_for(tag, checks, key.start, key.end);
+    let hashed = Hashed {
+        start: key.start,
+        end: key.end,
+        hash: hash,
+    };
+    match tag_keys::check_for_duplicates(tag, starts, ends, hashes, sieve, checks, count, hashed) {
         Checked::Fresh(more) => {
-            if !tag_keys::record_key(starts, ends, checks, count, key.start, key.end) {
+            if !tag_keys::record_key(starts, ends, hashes, sieve, checks, count, hashed) {
                 return Stepped::LendMore;
             }
-            let value = read_value(tag, html, key, eq);
+            let value = read_value(tag, at.html, key, eq);
             let answer = value.answer;
             let place = value.place;
             Stepped::Made(Advance {
@@ -416,34 +452,37 @@ fn key_valued<'a>(
 }
 
 // One step on lent tables of any length whose recorded keys lie in the tag: `IterState::next`. Nothing is copied, so whoever
-// reads a whole tag tests the state once and calls this.
+// reads a whole tag tests the state once, makes the sieve of its kept hashes, and calls this.
 pub fn step_in<'a>(
     tag: &[u8],
     starts: &'a mut [usize],
     ends: &'a mut [usize],
-    html: bool,
-    checks: bool,
-    count: usize,
-    place: Place,
+    hashes: &'a mut [u32],
+    sieve: &'a mut [u64],
+    at: Standing,
 ) -> Stepped
-    requires { ⌜ KeysIn (now starts) (now ends) count (length (now tag)) ⌝ }
-    ensures { λ r. ⌜ taken r (now (starts .exit)) (now (ends .exit)) count ≡ stepIn (now (tag .entry)) html checks (keysLent (now (starts .entry)) (now (ends .entry)) count) place ⌝ }
+    requires { ⌜ KeysIn (now starts) (now ends) (now hashes) (at .count) (now tag) ⌝ }
+    requires { ⌜ SieveOf (at .checks) (now sieve) (now hashes) (at .count) ⌝ }
+    ensures { λ r.
+        ⌜ (taken r (now (starts .exit)) (now (ends .exit)) (now (hashes .exit)) (at .count) ≡ stepIn (now (tag .entry)) (at .html) (at .checks) (keysLent (now (starts .entry)) (now (ends .entry)) (now (hashes .entry)) (at .count)) (at .place))
+        × (now (sieve .exit) ≡ sieveLeft (at .checks) (now (sieve .entry)) (now (hashes .exit)) (keptIn r (at .count))) ⌝ }
 {
+    let place = at.place;
     let Start::From(from) = recover(tag, place) else {
         return Stepped::Made(Advance {
             answer: Answer::End,
             place: place,
-            count: count,
+            count: at.count,
         });
     };
     match read_key(tag, from) {
         KeyRead::NoKey => Stepped::Made(Advance {
             answer: Answer::End,
             place: Place::Done,
-            count: count,
+            count: at.count,
         }),
-        KeyRead::Bare(key, at) => key_only(tag, starts, ends, html, checks, count, key, at),
-        KeyRead::Valued(key, eq) => key_valued(tag, starts, ends, html, checks, count, key, eq),
+        KeyRead::Bare(key, offset) => key_only(tag, starts, ends, hashes, sieve, at, key, offset),
+        KeyRead::Valued(key, eq) => key_valued(tag, starts, ends, hashes, sieve, at, key, eq),
     }
 }
 
@@ -455,7 +494,15 @@ pub fn step_unchecked(tag: &[u8], html: bool, place: Place) -> Found
 {
     let mut starts = [0usize; 0];
     let mut ends = [0usize; 0];
-    let step = step_in(tag, &mut starts, &mut ends, html, false, 0, place);
+    let mut hashes = [0u32; 0];
+    let mut sieve = [0u64; 0];
+    let at = Standing {
+        place: place,
+        html: html,
+        checks: false,
+        count: 0,
+    };
+    let step = step_in(tag, &mut starts, &mut ends, &mut hashes, &mut sieve, at);
     match step {
         Stepped::Made(made) => {
             let answer = made.answer;
@@ -473,8 +520,8 @@ pub fn step_unchecked(tag: &[u8], html: bool, place: Place) -> Found
     }
 }
 
-// Sets every place of a table to zero, used or not: what refusal 7 leaves.
-pub fn clear(table: &mut [usize])
+// Sets every place of a table to zero, used or not.
+fn clear(table: &mut [usize])
     ensures { λ _. ⌜ now (table .exit) ≡ replicate (length (now (table .entry))) 0 ⌝ }
 {
     let mut i = 0;
@@ -484,31 +531,55 @@ pub fn clear(table: &mut [usize])
     }
 }
 
+// The same of a table of hashes.
+fn clear_hashes(table: &mut [u32])
+    ensures { λ _. ⌜ now (table .exit) ≡ replicate (length (now (table .entry))) 0 ⌝ }
+{
+    let mut i = 0;
+    while i < table.len() {
+        table[i] = 0;
+        i += 1;
+    }
+}
+
+// Sets every place of key tables to zero, used or not: what refusal 7 leaves.
+pub fn clear_keys<'a>(starts: &'a mut [usize], ends: &'a mut [usize], hashes: &'a mut [u32])
+    ensures { λ _.
+        ⌜ (now (starts .exit) ≡ replicate (length (now (starts .entry))) 0)
+        × (now (ends .exit) ≡ replicate (length (now (ends .entry))) 0)
+        × (now (hashes .exit) ≡ replicate (length (now (hashes .entry))) 0) ⌝ }
+{
+    clear(starts);
+    clear(ends);
+    clear_hashes(hashes);
+}
+
 // One answer on tables of full size, for any state whatever: 7 first, which clears them; then a step.
 fn next_in<'a>(
     tag: &[u8],
     starts: &'a mut [usize],
     ends: &'a mut [usize],
-    html: bool,
-    checks: bool,
-    count: usize,
-    place: Place,
+    hashes: &'a mut [u32],
+    at: Standing,
 ) -> Advance
-    requires { ⌜ (length (now starts) ≡ capacity) × (length (now ends) ≡ capacity) ⌝ }
+    requires { ⌜ (length (now starts) ≡ capacity) × (length (now ends) ≡ capacity) × (length (now hashes) ≡ capacity) ⌝ }
     ensures { λ r.
-        ⌜ leaves (lentState place html checks (now (starts .entry)) (now (ends .entry)) count) (advanced r (now (starts .exit)) (now (ends .exit)))
-        ≡ nextOf (now (tag .entry)) (lentState place html checks (now (starts .entry)) (now (ends .entry)) count) ⌝ }
+        ⌜ leaves (standsAt at (now (starts .entry)) (now (ends .entry)) (now (hashes .entry))) (advanced r (now (starts .exit)) (now (ends .exit)) (now (hashes .exit)))
+        ≡ nextOf (now (tag .entry)) (standsAt at (now (starts .entry)) (now (ends .entry)) (now (hashes .entry))) ⌝ }
 {
-    if !good_in(tag, starts, ends, count, place) {
-        clear(starts);
-        clear(ends);
+    let count = at.count;
+    let place = at.place;
+    if !good_in(tag, starts, ends, hashes, count, place) {
+        clear_keys(starts, ends, hashes);
         return Advance {
             answer: Answer::BadState,
             place: Place::Done,
             count: 0,
         };
     }
-    match step_in(tag, starts, ends, html, checks, count, place) {
+    let mut sieve = [0u64; SIEVE_WORDS];
+    tag_keys::sieve_kept(&mut sieve, hashes, count);
+    match step_in(tag, starts, ends, hashes, &mut sieve, at) {
         Stepped::Made(made) => made,
         // Never: tables of full size have a place for every key that is due to be recorded.
         Stepped::LendMore => Advance {
@@ -530,6 +601,7 @@ impl IterState {
             check_duplicates: true,
             starts: [0; CAPACITY],
             ends: [0; CAPACITY],
+            hashes: [0; CAPACITY],
             count: 0,
         }
     }
@@ -550,9 +622,16 @@ impl IterState {
         let checks = self.check_duplicates;
         let mut starts = self.starts;
         let mut ends = self.ends;
+        let mut hashes = self.hashes;
         let count = self.count;
         let place = self.place;
-        let made = next_in(tag, &mut starts, &mut ends, html, checks, count, place);
+        let at = Standing {
+            place: place,
+            html: html,
+            checks: checks,
+            count: count,
+        };
+        let made = next_in(tag, &mut starts, &mut ends, &mut hashes, at);
         let answer = made.answer;
         let left = made.place;
         Step {
@@ -563,6 +642,7 @@ impl IterState {
                 check_duplicates: checks,
                 starts: starts,
                 ends: ends,
+                hashes: hashes,
                 count: made.count,
             },
         }

@@ -1,6 +1,6 @@
 //! The attributes of a tag, one after another.
 
-use crate::ffi::{self, Ahead, Answer, BATCH, Reads};
+use crate::ffi::{self, Ahead, Answer, Reads};
 use crate::memory::View;
 use crate::name::{Holder, NamespaceResolver, QName};
 use alloc::borrow::Cow;
@@ -223,8 +223,8 @@ pub enum AttrError {
     ///
     /// Comes with checks on alone.
     Duplicated(usize, usize),
-    /// A new key where 256 are recorded, at the position of the key; reading has ended. quick-xml records
-    /// without end and doesn't have this.
+    /// A new key where [as many as can be](Tables::KEYS) are recorded, at the position of the key; reading has
+    /// ended. quick-xml records without end and doesn't have this.
     ///
     /// Comes with checks on alone.
     KeyTableFull(usize),
@@ -260,7 +260,11 @@ impl Display for AttrError {
                 "position {pos}: duplicated attribute, previous declaration at position {earlier}"
             ),
             Self::KeyTableFull(pos) => {
-                write!(f, "position {pos}: more than 256 different attribute keys")
+                let most = Tables::KEYS;
+                write!(
+                    f,
+                    "position {pos}: more than {most} different attribute keys"
+                )
             }
             Self::BadState => write!(f, "the state of reading is none that reading leaves"),
         }
@@ -309,7 +313,7 @@ impl<T: Kept> IterState<T> {
         if self.taken == self.kept.ahead().filled() && !self.read(tag) {
             return None;
         }
-        let answer = self.kept.ahead().answer(self.taken);
+        let answer = self.kept.answer(self.taken);
         self.taken += 1;
         Some(answered(answer))
     }
@@ -321,10 +325,9 @@ impl<T: Kept> IterState<T> {
         if self.ended {
             return false;
         }
-        let read = self.kept.read(tag, self.html, self.check_duplicates, BATCH);
+        self.ended = self.kept.read(tag, self.html, self.check_duplicates);
         self.taken = 0;
-        self.ended = read < BATCH;
-        read > 0
+        self.kept.ahead().filled() > 0
     }
 
     /// The search goes on behind the answers that were taken: those read ahead are not among them.
@@ -374,10 +377,10 @@ fn refused(number: usize, a: usize, b: usize) -> AttrError {
 
 /// The attributes of a tag, and what is wrong in it, in the order in which they stand.
 ///
-/// The memory for the keys of 32 attributes is inside, less than 1 KB in all, which stands on the stack once for each
-/// open tag where a program goes from tag to tag by recursion; a tag with more keys gets its places on the heap. It can be
-/// lent instead ([`with_tables`](Attributes::with_tables)): no tag allocates then, and the iterator is small and is moved
-/// at no cost.
+/// The memory for the keys of 32 attributes is inside, 1.1 KB in all, which stands on the stack once for each open tag
+/// where a program goes from tag to tag by recursion; a tag with more keys gets its places on the heap, which grow with
+/// their number. It can be lent instead ([`with_tables`](Attributes::with_tables)): no tag allocates then, and the iterator
+/// is small and is moved at no cost.
 #[derive(Clone)]
 pub struct Attributes<'a, T = Inside> {
     buf: &'a str,

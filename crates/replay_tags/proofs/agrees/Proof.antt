@@ -12,6 +12,9 @@ slice-aggregate-agrees-on c = search needs
 slice-aggregate-agrees-on-2 : tie.Need-slice-aggregate-agrees-on-2
 slice-aggregate-agrees-on-2 c = search needs
 
+slice-aggregate-agrees-on-3 : tie.Need-slice-aggregate-agrees-on-3
+slice-aggregate-agrees-on-3 c = search needs
+
 agrees-on-requires : tie.Need-agrees-on-requires
 agrees-on-requires c κs = search needs
 
@@ -20,7 +23,7 @@ same-length c = search needs
 
 returns : tie.Need-returns
 unfolding replayOpened opened noKeys
-returns c = c .before .before .before .before .agrees-on .ensures
+returns c = c .before .before .before .before .before .agrees-on .ensures
 
 pub agrees-spec : {M : Type 1} → statement M
 agrees-spec =
@@ -28,6 +31,7 @@ agrees-spec =
     (tie.spec
     slice-aggregate-agrees-on
     slice-aggregate-agrees-on-2
+    slice-aggregate-agrees-on-3
     agrees-on-requires
     same-length
     returns)

@@ -52,6 +52,9 @@ shared-slice-read-wide-2 c = search needs
 wide-requires-2 : tie.Need-wide-requires-2
 wide-requires-2 c κs = search needs
 
+number-at-requires-3 : tie.Need-number-at-requires-3
+number-at-requires-3 c κs = search needs
+
 sub-agrees-by : tie.Need-sub-agrees-by
 sub-agrees-by c = search needs
 
@@ -60,9 +63,6 @@ part-agrees-by-start c = search needs
 
 part-agrees-by-end : tie.Need-part-agrees-by-end
 part-agrees-by-end c = search needs
-
-number-at-requires-3 : tie.Need-number-at-requires-3
-number-at-requires-3 c κs = search needs
 
 sub-agrees-by-2 : tie.Need-sub-agrees-by-2
 sub-agrees-by-2 c = search needs
@@ -89,13 +89,13 @@ same-length : tie.Need-same-length
 same-length c = search needs
 
 returns-4 : tie.Need-returns-4
-returns-4 c = whole (c .before .before .before .before .before .before .before .before .before .before .before .before .before .before .before .before .before .before .before .before .args .rest .now) (c .before .before .before .before .before .before .before .before .before .before .before .before .before .before .before .before .before .if1 .left) (c .before .before .before .before .before .before .before .before .before .before .before .before .before .before .before .before .number-at .ensures) (c .before .before .before .before .before .before .before .before .before .before .before .before .before .before .before .if2 .left) refl (c .before .before .before .before .before .before .before .before .before .before .before .before .before .number-at2 .ensures) (c .before .before .before .before .before .before .before .before .before .before .before .before .if3 .left) (ap (λ (x : ℕ). eqb x 1) (c .before .before .before .before .before .before .before .before .before .before .wide .ensures)) (ap (λ (x : ℕ). eqb x 1) (c .before .before .before .before .before .before .before .before .wide2 .ensures)) (c .before .before .before .before .before .before .number-at3 .ensures) refl (sym (c .if4 .taken) ∙ c .before .before .before .agrees-by .ensures)
+returns-4 c = whole (c .before .before .before .before .before .before .before .before .before .before .before .before .before .before .before .before .before .before .before .before .args .rest .now) (c .before .before .before .before .before .before .before .before .before .before .before .before .before .before .before .before .before .if1 .left) (c .before .before .before .before .before .before .before .before .before .before .before .before .before .before .before .before .number-at .ensures) (c .before .before .before .before .before .before .before .before .before .before .before .before .before .before .before .if2 .left) refl (c .before .before .before .before .before .before .before .before .before .before .before .before .before .number-at2 .ensures) (c .before .before .before .before .before .before .before .before .before .before .before .before .if3 .left) (ap (λ (x : ℕ). eqb x 1) (c .before .before .before .before .before .before .before .before .before .before .wide .ensures)) (ap (λ (x : ℕ). eqb x 1) (c .before .before .before .before .before .before .before .before .wide2 .ensures)) (c .before .before .before .before .before .before .before .number-at3 .ensures) refl (sym (c .if4 .taken) ∙ c .before .before .before .agrees-by .ensures)
 
 same-length-2 : tie.Need-same-length-2
 same-length-2 c = search needs
 
 returns-5 : tie.Need-returns-5
-returns-5 c = whole (c .before .before .before .before .before .before .before .before .before .before .before .before .before .before .before .before .before .before .before .before .args .rest .now) (c .before .before .before .before .before .before .before .before .before .before .before .before .before .before .before .before .before .if1 .left) (c .before .before .before .before .before .before .before .before .before .before .before .before .before .before .before .before .number-at .ensures) (c .before .before .before .before .before .before .before .before .before .before .before .before .before .before .before .if2 .left) refl (c .before .before .before .before .before .before .before .before .before .before .before .before .before .number-at2 .ensures) (c .before .before .before .before .before .before .before .before .before .before .before .before .if3 .left) (ap (λ (x : ℕ). eqb x 1) (c .before .before .before .before .before .before .before .before .before .before .wide .ensures)) (ap (λ (x : ℕ). eqb x 1) (c .before .before .before .before .before .before .before .before .wide2 .ensures)) (c .before .before .before .before .before .before .number-at3 .ensures) refl (sym (c .if4 .left) ∙ c .before .before .before .agrees-by .ensures)
+returns-5 c = whole (c .before .before .before .before .before .before .before .before .before .before .before .before .before .before .before .before .before .before .before .before .args .rest .now) (c .before .before .before .before .before .before .before .before .before .before .before .before .before .before .before .before .before .if1 .left) (c .before .before .before .before .before .before .before .before .before .before .before .before .before .before .before .before .number-at .ensures) (c .before .before .before .before .before .before .before .before .before .before .before .before .before .before .before .if2 .left) refl (c .before .before .before .before .before .before .before .before .before .before .before .before .before .number-at2 .ensures) (c .before .before .before .before .before .before .before .before .before .before .before .before .if3 .left) (ap (λ (x : ℕ). eqb x 1) (c .before .before .before .before .before .before .before .before .before .before .wide .ensures)) (ap (λ (x : ℕ). eqb x 1) (c .before .before .before .before .before .before .before .before .wide2 .ensures)) (c .before .before .before .before .before .before .before .number-at3 .ensures) refl (sym (c .if4 .left) ∙ c .before .before .before .agrees-by .ensures)
 
 pub record-of-spec : {M : Type 1} → statement M
 record-of-spec =
@@ -116,10 +116,10 @@ record-of-spec =
     wide-requires
     shared-slice-read-wide-2
     wide-requires-2
+    number-at-requires-3
     sub-agrees-by
     part-agrees-by-start
     part-agrees-by-end
-    number-at-requires-3
     sub-agrees-by-2
     part-agrees-by-start-2
     part-agrees-by-end-2

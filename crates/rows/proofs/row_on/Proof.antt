@@ -4,6 +4,10 @@ use lib.Seq.{length-take-le}
 use borrow.Author.Needs.{needs}
 use Rattle.rows.proofs.row_on.Statement.{statement}
 use Rattle.rows.proofs.row_on.Tie as tie
+use Rattle.rows.proofs.row_on.Reads as reads
+use Rattle.rows.proofs.row_on.Lts as lts
+use Rattle.io.proofs.write_all.Reads as write-all-reads
+use Rattle.lines.proofs.page.Reads as page-reads
 
 page-requires : tie.Need-page-requires
 page-requires c κs = search needs
@@ -29,11 +33,11 @@ same-length-3 c = search needs
 same-length-4 : tie.Need-same-length-4
 same-length-4 c = search needs
 
-returns : tie.Need-returns
-returns c = search needs
-
 same-length-5 : tie.Need-same-length-5
 same-length-5 c = search needs
+
+returns : tie.Need-returns
+returns c = search needs
 
 same-length-6 : tie.Need-same-length-6
 same-length-6 c = search needs
@@ -43,6 +47,12 @@ same-length-7 c = search needs
 
 same-length-8 : tie.Need-same-length-8
 same-length-8 c = search needs
+
+same-length-9 : tie.Need-same-length-9
+same-length-9 c = search needs
+
+same-length-10 : tie.Need-same-length-10
+same-length-10 c = search needs
 
 returns-2 : tie.Need-returns-2
 returns-2 c = search needs
@@ -59,9 +69,11 @@ row-on-spec =
     same-length-2
     same-length-3
     same-length-4
-    returns
     same-length-5
+    returns
     same-length-6
     same-length-7
     same-length-8
+    same-length-9
+    same-length-10
     returns-2)

@@ -59,7 +59,7 @@ stayed = (stay-ref (0 ∷ []) tt behind, (stay-none (λ _. bool) yes, tt))
 
 -- a state with another setting, as a store to its field makes it
 abbrev set : Bool → IterState → IterState
-set checks s = record { place = s .place; html = s .html; «check_duplicates» = checks; starts = s .starts; ends = s .ends; count = s .count }
+set checks s = record { place = s .place; html = s .html; «check_duplicates» = checks; starts = s .starts; ends = s .ends; hashes = s .hashes; count = s .count }
 
 set-is : (checks : Bool) (it : Attributes) → of (it .tag) (set checks (it .state)) ≡ of (it .tag) (withChecks checks (it .state))
 unfolding withChecks
@@ -96,7 +96,7 @@ module _ {M : Type 1} (𝓤 : URA M) (H : Heap 𝓤) (A : Atoms 𝓤) (W : Given
       use1 W (given (heldVal α it ∷ [] ≡ heldVal α it ∷ []) (‵ fields)) (own-open 𝓤 H A W (D α) (L α) (it .tag, (it .state, tt)) (heldVal α it)) $ learn ! (λ _.
       fsplit ! $ move ! (1 ∷ []) $ fsplit ! $ owned ! bool (Is bool) (bool-makes 𝓤 H A W) checks _ refl $ move ! (1 ∷ 0 ∷ []) $
       use2 W (‵ (I.the-row .own s (stateVals s)))
-      (own-put 𝓤 H A W I.the-type I′.the-laws 2 (it .state .place, (it .state .html, (it .state .«check_duplicates», (it .state .starts, (it .state .ends, (it .state .count, tt)))))) checks (LL.val I.the-type I′.the-laws (it .state))) $
+      (own-put 𝓤 H A W I.the-type I′.the-laws 2 (it .state .place, (it .state .html, (it .state .«check_duplicates», (it .state .starts, (it .state .ends, (it .state .hashes, (it .state .count, tt))))))) checks (LL.val I.the-type I′.the-laws (it .state))) $
       fjoin ! $ move ! (1 ∷ 0 ∷ []) $ fjoin ! $ by ! (own-shut 𝓤 H A W (D α) (L α) (it .tag, (s, tt))))
 
   exits : ent 𝓤 (⋆ 𝓤 H A (‵ (fobs γ (Row α .coded .code out)) ∷ ‵ (fbor κ (Body (mem (Row α)) b o γ)) ∷ ‵ (flft κ q) ∷ (‵ (flft κ′ q′) ⊛ ‵ ftrue) ∷ [])) (Post vunit)

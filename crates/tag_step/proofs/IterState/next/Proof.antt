@@ -15,13 +15,22 @@ slice-aggregate-next-in c = search needs
 slice-aggregate-next-in-2 : tie.Need-slice-aggregate-next-in-2
 slice-aggregate-next-in-2 c = search needs
 
+slice-aggregate-next-in-3 : tie.Need-slice-aggregate-next-in-3
+slice-aggregate-next-in-3 c = search needs
+
 next-in-requires : tie.Need-next-in-requires
-next-in-requires c κs = (search needs, search needs)
+next-in-requires c κs = search needs
 
 returns : tie.Need-returns
 unfolding leaves
-returns c = ap numberedStep (c .before .before .next-in .ensures)
+returns c = ap numberedStep (c .before .before .before .next-in .ensures)
 
 pub next-spec : {M : Type 1} → statement M
 next-spec =
-    tie.close (tie.spec slice-aggregate-next-in slice-aggregate-next-in-2 next-in-requires returns)
+    tie.close
+    (tie.spec
+    slice-aggregate-next-in
+    slice-aggregate-next-in-2
+    slice-aggregate-next-in-3
+    next-in-requires
+    returns)

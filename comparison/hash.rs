@@ -1,0 +1,8 @@
+//! What a recorded key keeps beside its bounds.
+
+/// FNV-1a with 32 bits, as document 02 has it: from 2166136261, for each byte the exclusive or with it, then the
+/// product with 16777619, of which 32 bits are kept.
+pub fn hash(bytes: &[u8]) -> u32 {
+    let step = |hash: u64, &byte: &u8| ((hash ^ u64::from(byte)) * 16_777_619) % (1 << 32);
+    bytes.iter().fold(2_166_136_261, step) as u32
+}
