@@ -758,14 +758,7 @@ fn wrong_lengths(_: &Extent, tally: &mut Tally) -> Result<(), String> {
             )?;
         }
     }
-    for places in [
-        [KEYS + 1, KEYS, KEYS],
-        [KEYS, KEYS + 1, KEYS],
-        [KEYS, KEYS, KEYS + 1],
-        [0, KEYS + 1, 0],
-        [0, 0, KEYS + 1],
-        [2 * KEYS + 88; 3],
-    ] {
+    for places in hash::TOO_LONG {
         for position in [0, 99] {
             let cursor = Cursor::at("", [2, position], &[]).with_places(places);
             hold_search_unwritten(&good, &cursor, WRONG_LENGTH, tally)?;

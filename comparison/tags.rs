@@ -27,7 +27,7 @@ mod library;
 mod parts;
 
 use cases::{Lcg, SHARED, Shape};
-use hash::hash;
+use hash::{TOO_LONG, hash};
 use library::{KEYS, mz_read_batch};
 use oracle::steps::{Place, Reader, opened_by_start_tag};
 use oracle::text::shown;
@@ -902,14 +902,7 @@ fn hold_with_places(
 /// Fewer places than keys are recorded is a bad state; more than there can be is no table.
 fn hold_other_places(tag: Tag, whole: &Whole, from: usize, lcg: &mut Lcg) -> Result<(), String> {
     let recorded = whole.numbers[from][2];
-    let mut cases = vec![
-        [KEYS + 1, KEYS, KEYS],
-        [KEYS, KEYS + 1, KEYS],
-        [KEYS, KEYS, KEYS + 1],
-        [0, KEYS + 1, 0],
-        [0, 0, KEYS + 1],
-        [2 * KEYS + 88; 3],
-    ];
+    let mut cases = TOO_LONG.to_vec();
     if recorded > 0 {
         let fewer = lcg.below(recorded);
         cases.push([fewer; 3]);
@@ -950,7 +943,7 @@ fn few_places(extent: &Extent, tally: &mut Tally) -> Result<(), String> {
         let shape = Shape {
             attributes: match round % 40 {
                 0 => KEYS - 6 + lcg.below(12),
-                1..5 => KEYS - 6 + lcg.below(12),
+                1..5 => 100 + lcg.below(200),
                 _ => lcg.below(40),
             },
             repeated: [0, 3, 20][lcg.below(3)],

@@ -50,7 +50,10 @@ fn agrees_on<'a>(
     out: &mut [usize],
 ) -> bool
     requires { ⌜ ReplayMemory (now starts) (now ends) (now hashes) (now out) answers (now recorded) ⌝ }
-    ensures { λ r. ⌜ r ≡ answersAgree (now (tag .entry)) (replayOpened (mode .opening) (mode .html) (mode .checks) (now (starts .entry)) (now (ends .entry)) (now (hashes .entry))) answers (now (recorded .entry)) ⌝ }
+    ensures { λ r.
+        ⌜ r ≡ answersAgree (now (tag .entry))
+        (replayOpened (mode .opening) (mode .html) (mode .checks) (now (starts .entry)) (now (ends .entry)) (now (hashes .entry)))
+        answers (now (recorded .entry)) ⌝ }
 {
     let html = mode.html;
     let checks = mode.checks;
