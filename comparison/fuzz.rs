@@ -11,13 +11,19 @@
 //! refusal that quick-xml doesn't have, and that one has to be due: a key, a record or more text than there is room
 //! for.
 //!
+//! The tag also comes in pieces, which are as long as `turns` says, and so does the argument of a call, cut at each
+//! byte FE; with answers taken on the way, by `Pieces`, in memory of its own or in memory that is lent. They have to be
+//! those of the whole tag, each with the piece that holds its last byte.
+//!
 //! The calls are made once more in memory that is lent, little of it at first and more when that is full: they have
 //! to answer as in memory of the resolver's own.
 //!
 //! With `--cfg libfuzzer` this is the function that libFuzzer calls; else a program that draws its inputs,
 //! `fuzz SECONDS`. Either ends with status 1 at a difference, and shows the input.
 
-use mezzulidda::events::attributes::{Attr, AttrError, ByteAttributes, Tables};
+use mezzulidda::events::attributes::{
+    Attr, AttrError, ByteAttributes, Held, Kept, PieceError, Pieces, Tables,
+};
 use mezzulidda::name::{Lent, NamespaceResolver};
 use oracle::scopes;
 use oracle::steps::Reader;
@@ -46,6 +52,8 @@ struct Input {
     /// So many bytes are lent for a resolver at first.
     bytes: usize,
     tag: Vec<u8>,
+    /// How long the first pieces are in which the tag comes; `turns` has the lengths of the others.
+    cuts: Vec<usize>,
     calls: Vec<Call>,
 }
 
@@ -73,8 +81,32 @@ impl Input {
             position: position_of(u16::from_le_bytes([low, high]), tag.len()),
             bytes,
             tag,
+            cuts: Vec::new(),
             calls: calls.split(|&b| b == 0xff).filter_map(Call::of).collect(),
         })
+    }
+
+    /// A tag that comes in the pieces of a call's argument, behind two bytes that say how it is read.
+    fn in_pieces(argument: &[u8]) -> Self {
+        let (&[flags, turns], rest) = argument.split_first_chunk().unwrap_or((&[0, 0], &[]));
+        let pieces: Vec<&[u8]> = rest.split(|&byte| byte == 0xfe).collect();
+        Input {
+            html: flags & 1 != 0,
+            checks: flags & 2 == 0,
+            lent: flags & 4 != 0,
+            turns,
+            position: usize::from(flags >> 5),
+            bytes: 0,
+            tag: pieces.concat(),
+            cuts: pieces.iter().map(|piece| piece.len()).collect(),
+            calls: Vec::new(),
+        }
+    }
+
+    /// How long a piece is.
+    fn cut(&self, turn: usize) -> usize {
+        let drawn = || 1 + usize::from(self.turns.rotate_left(turn as u32)) % 40;
+        self.cuts.get(turn).copied().unwrap_or_else(drawn)
     }
 
     const fn turns_before(&self, step: usize) -> bool {
@@ -95,7 +127,7 @@ fn attributes_of_different_names(count: usize, name: &str) -> String {
 }
 
 /// So many kinds of calls are told apart in an input.
-const KINDS: u8 = 12;
+const KINDS: u8 = 13;
 
 /// One call on a resolver.
 #[derive(Debug)]
@@ -111,6 +143,8 @@ enum Call {
     Bindings,
     BindingsOf(u16),
     HasNil(String),
+    /// A tag in pieces, which no resolver has to do with.
+    Pieces(Vec<u8>),
 }
 
 impl Call {
@@ -139,6 +173,7 @@ impl Call {
             8 => Call::BindingsOf(level(number)),
             9 => Call::HasNil(text),
             10 => Call::Bindings,
+            12 => Call::Pieces(argument.to_vec()),
             _ => {
                 let name_len = text.find(' ').unwrap_or(text.len() + 1);
                 Call::Push(text, name_len)
@@ -226,6 +261,7 @@ macro_rules! calls_on {
                         shown(resolver.bindings_of(*level).collect::<Vec<_>>())
                     }
                     Call::HasNil(tag) => shown(Attributes::new(tag, 0).has_nil(resolver)),
+                    Call::Pieces(_) => String::new(),
                 }
             }
 
@@ -300,9 +336,9 @@ fn compare_text(input: &Input) -> Compared {
     Ok(())
 }
 
-/// An answer about bytes in the numbers that the oracle has for it, with 6 and 7.
-fn numbers(answer: Result<Attr<&[u8]>, AttrError>, tag: &[u8]) -> [usize; 5] {
-    let at = |part: &[u8]| part.as_ptr() as usize - tag.as_ptr() as usize;
+/// An answer about bytes, which begin at an address, in the numbers that the oracle has for it, with 6 and 7.
+fn numbers(answer: Result<Attr<&[u8]>, AttrError>, tag: usize) -> [usize; 5] {
+    let at = |part: &[u8]| part.as_ptr() as usize - tag;
     let both = |code, key: &[u8], value: &[u8]| {
         let (key_at, value_at) = (at(key), at(value));
         [
@@ -325,11 +361,12 @@ fn numbers(answer: Result<Attr<&[u8]>, AttrError>, tag: &[u8]) -> [usize; 5] {
         Err(AttrError::Duplicated(key, earlier)) => [5, key, earlier, 0, 0],
         Err(AttrError::KeyTableFull(key)) => [6, key, 0, 0, 0],
         Err(AttrError::BadState) => [7, 0, 0, 0, 0],
+        Err(AttrError::NoText(_)) => unreachable!("bytes need not be text"),
     }
 }
 
-/// The tag as it stands, by `ByteAttributes`, from any position.
-fn compare_bytes(input: &Input) -> Compared {
+/// The tag as it stands, by `ByteAttributes`, from any position: its answers, up to 6.
+fn compare_bytes(input: &Input) -> Result<Vec<[usize; 5]>, String> {
     let tag = &input.tag[..];
     let mut ours = match input.html {
         true => ByteAttributes::html(tag, input.position),
@@ -337,8 +374,11 @@ fn compare_bytes(input: &Input) -> Compared {
     };
     ours.with_checks(input.checks);
     let mut theirs = Reader::open(tag, input.position, input.html, input.checks);
+    let mut answers = Vec::new();
     loop {
-        let answer = ours.next().map(|answer| numbers(answer, tag));
+        let answer = ours
+            .next()
+            .map(|answer| numbers(answer, tag.as_ptr() as usize));
         let mut wanted = theirs.step().map(|answer| answer.numbers());
         let full = theirs.keys().get(KEYS);
         if let Some(key) = full {
@@ -347,10 +387,105 @@ fn compare_bytes(input: &Input) -> Compared {
         if answer != wanted {
             return Err(format!("bytes: due {wanted:?}, ours {answer:?}"));
         }
+        answers.extend(answer);
         if answer.is_none() || full.is_some() {
-            return Ok(());
+            return Ok(answers);
         }
     }
+}
+
+/// How many bytes have to be there for an answer: up to the last one that its rule looks at. None where it is the finish.
+fn needed(answer: [usize; 5], tag: &[u8]) -> Option<usize> {
+    let space = |byte: &u8| b" \t\r\n".contains(byte);
+    let other_from = |at: usize| (at..tag.len()).find(|&at| !space(&tag[at]));
+    let last = match answer {
+        [101 | 102, .., quote] => Some(quote),
+        [103, .., end] => Some(end),
+        [104, _, end, ..] => other_from(end),
+        [1 | 3, at, ..] => Some(at),
+        // a key that is refused: the first byte behind it that is no whitespace
+        [5 | 6, start, ..] => (start + 1..tag.len())
+            .find(|&at| space(&tag[at]) || tag[at] == b'=')
+            .and_then(other_from),
+        _ => None,
+    };
+    last.filter(|&last| last < tag.len()).map(|last| last + 1)
+}
+
+/// The tag in pieces, with the answers that are there taken after some of them.
+fn hold_pieces<T: Kept, B: Held>(
+    mut ours: Pieces<T, B>,
+    input: &Input,
+    wanted: &[[usize; 5]],
+) -> Compared {
+    ours.with_checks(input.checks);
+    let tag = &input.tag[..];
+    let (mut held, mut taken) = (0, 0);
+    for turn in 0.. {
+        let finished = ours.is_finished();
+        if finished || input.turns_before(turn) {
+            let there =
+                |answer: &&[usize; 5]| finished || needed(**answer, tag).is_some_and(|n| n <= held);
+            let due = wanted.iter().take_while(there).count();
+            while taken <= due {
+                let from = ours.bytes().as_ptr() as usize;
+                let answer = ours.next_bytes().map(|answer| numbers(answer, from));
+                let next = wanted[..due].get(taken).copied();
+                if answer != next {
+                    return Err(format!(
+                        "pieces, {held} bytes, answer {taken}: due {next:?}, ours {answer:?}"
+                    ));
+                }
+                if answer.is_none() {
+                    break;
+                }
+                taken += 1;
+            }
+        }
+        if finished {
+            break;
+        }
+        let piece = &tag[held..][..input.cut(turn).min(tag.len() - held)];
+        let given = match held == tag.len() && turn >= input.cuts.len() {
+            true => ours.finish(),
+            false => ours.piece(piece),
+        };
+        if given.is_err() {
+            return Err(format!("a piece, {held} bytes are held: {given:?}"));
+        }
+        held += piece.len();
+    }
+    match (ours.piece(b""), ours.finish()) {
+        (Err(PieceError::Finished), Err(PieceError::Finished)) => Ok(()),
+        taken => Err(format!("after the finish: {taken:?}")),
+    }
+}
+
+/// The tag in pieces, in memory of the reader's own and in memory that is lent.
+fn compare_pieces(input: &Input, wanted: &[[usize; 5]]) -> Compared {
+    let Input { html, position, .. } = *input;
+    // up to more than there is room for, which is refused
+    if input.tag.len() > Pieces::MOST {
+        let long = Pieces::new(0).piece(&input.tag);
+        return match long {
+            Err(PieceError::TooLong { held: 0, .. }) => Ok(()),
+            _ => Err(format!("a piece of {} bytes: {long:?}", input.tag.len())),
+        };
+    }
+    if input.lent {
+        let mut tables = Tables::new();
+        let mut text = vec![0x5a; input.tag.len()];
+        let lent = match html {
+            true => Pieces::html_with_tables(position, &mut tables, &mut text),
+            false => Pieces::with_tables(position, &mut tables, &mut text),
+        };
+        return hold_pieces(lent, input, wanted);
+    }
+    let own = match html {
+        true => Pieces::html(position),
+        false => Pieces::new(position),
+    };
+    hold_pieces(own, input, wanted)
 }
 
 /// The calls, on a fresh resolver of each.
@@ -360,6 +495,10 @@ fn compare_calls(input: &Input) -> Compared {
     let mut ours = NamespaceResolver::default();
     let mut theirs = oracle::NamespaceResolver::default();
     for call in calls {
+        if let Call::Pieces(argument) = call {
+            let input = Input::in_pieces(argument);
+            compare_pieces(&input, &compare_bytes(&input)?)?;
+        }
         let answer = by_ours::call(&mut ours, call);
         let wanted = by_quick_xml::call(&mut theirs, call);
         let due = match answer.as_str() {
@@ -455,7 +594,8 @@ fn compare(bytes: &[u8]) -> Compared {
         return Ok(());
     };
     compare_text(&input)?;
-    compare_bytes(&input)?;
+    let answers = compare_bytes(&input)?;
+    compare_pieces(&input, &answers)?;
     if input.calls.is_empty() {
         return Ok(());
     }

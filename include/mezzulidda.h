@@ -6,8 +6,8 @@
  * - A slice is a pointer and a length, in elements. The pointer is aligned, and so many elements can be
  *   read there, and written where it is not const. Where the length is 0 nothing is read or written
  *   through the pointer: it may be null.
- * - `head`, `state` and `detail` have a fixed number of elements and are pointers alone, which are not
- *   null.
+ * - `head`, `state`, `reader` and `detail` have a fixed number of elements and are pointers alone, which
+ *   are not null.
  * - What a call writes lies apart from everything else that it is given.
  *
  * Positions are indexes of bytes, from 0; bounds are a start and the end behind the last byte.
@@ -40,7 +40,15 @@ extern "C" {
 #define MZ_LAYOUT_NUMBER_SIZE 9       /* sizeof(size_t) */
 #define MZ_LAYOUT_NUMBER_ALIGNMENT 10 /* its alignment */
 #define MZ_LAYOUT_HASH_SIZE 11        /* sizeof(uint32_t) */
+#define MZ_LAYOUT_READER 12           /* MZ_READER */
+#define MZ_LAYOUT_HOLD 13             /* MZ_HOLD */
 size_t mz_layout(size_t what);
+
+/* ---- Lent memory ---- */
+
+/* Answers of the calls that take memory in proportion to what is in use. */
+#define MZ_LEND_MORE 98    /* an array is too short; nothing is changed: lend a longer one, and call again */
+#define MZ_WRONG_LENGTH 99 /* what is in use is not lent, or an array is too long; nothing is changed */
 
 /* ---- Names ---- */
 
@@ -67,7 +75,8 @@ size_t mz_as_bool(const uint8_t *value, size_t value_len);
 #define MZ_KEYS 1024        /* so many keys of a tag can be recorded: elements of each key table, at most */
 #define MZ_STATE 4          /* elements of `state` */
 #define MZ_ANSWER 5         /* elements of `out` for each answer */
-#define MZ_NONE SIZE_MAX    /* instead of a number of answers: a key table is longer than MZ_KEYS */
+#define MZ_NONE SIZE_MAX    /* instead of a number of answers: a key table is longer than MZ_KEYS, or the text of
+                             * mz_take than MZ_HOLD */
 
 /* The kinds of a place, `state[0]`. */
 #define MZ_DONE 0           /* reading has ended */
@@ -123,6 +132,117 @@ size_t mz_read_batch(const uint8_t *tag, size_t tag_len,
                      bool html, bool checks,
                      size_t *out, size_t out_len);
 
+/* ---- Tags that arrive in pieces ---- */
+
+#define MZ_HOLD 65536       /* bytes of a tag that a reader can hold: elements of `text`, at most */
+#define MZ_READER 9         /* elements of `reader` */
+
+/*
+ * A reader takes a tag in pieces, as they come, and then a finish. Between them, at any time, it gives the
+ * answers that mz_read_batch would give on the whole tag: the same, in the same order, however the tag is cut
+ * and whenever they are taken. Each can be taken once the piece is there that holds the last byte which its rule
+ * looks at:
+ *
+ *   MZ_DOUBLE_Q, MZ_SINGLE_Q           the closing quote
+ *   MZ_UNQUOTED                        the whitespace behind the value; if none, the finish
+ *   MZ_EMPTY, MZ_EXPECTED_EQ           the first byte behind the key that is no whitespace; if none, the finish
+ *   MZ_UNQUOTED_VALUE                  the value's first byte
+ *   MZ_DUPLICATED, MZ_KEY_TABLE_FULL   the `=` of the key; of a key without one as MZ_EMPTY
+ *   MZ_EXPECTED_VALUE, MZ_EXPECTED_QUOTE, and the end that follows the last answer: the finish
+ *
+ * A reader is the caller's own memory: the bytes that it holds, `text`; the key tables, as mz_read_batch has
+ * them; and the numbers of `reader`:
+ *
+ *   reader[0], reader[1], reader[2]    the kind of the place, its position, the number of recorded keys
+ *   reader[3]                          why mz_take stopped
+ *   reader[4]                          how many bytes are held: the first ones of `text`
+ *   reader[5]                          whether the finish has come: 0 no, any other number yes
+ *   reader[6]                          the phase: what the next answer waits for
+ *   reader[7], reader[8]               the bounds of its key, as far as the phase knows them, else 0
+ *
+ * It is opened by { MZ_NEXT, where the tag's attributes begin, 0, 0, 0, 0, 0, 0, 0 }. Positions count from the
+ * first byte of the first piece. `text` may have any length up to MZ_HOLD; what stands behind the bytes held
+ * need not be set. After MZ_LEND_MORE the caller copies these to a longer array, and calls again. With arrays of
+ * full length, and room for ten answers in `out`, a tag is read so:
+ *
+ *   size_t reader[MZ_READER] = { MZ_NEXT, name_len }, n;
+ *   do {
+ *       more = next_piece(&piece, &piece_len);
+ *       refused = more ? mz_piece(text, MZ_HOLD, reader, piece, piece_len) : mz_finish(reader);
+ *       do {
+ *           n = mz_take(text, MZ_HOLD, starts, MZ_KEYS, ends, MZ_KEYS, hashes, MZ_KEYS, reader, html, checks,
+ *                       out, 10 * MZ_ANSWER);
+ *           use(out, n);
+ *       } while (n == 10);
+ *   } while (more && !refused);
+ */
+
+/* The phases: what the next answer waits for. mz_piece carries the phase over its own bytes, and an answer sets
+ * it back to MZ_BEGIN; so no byte is looked at anew with each piece. It only saves time: MZ_BEGIN is always
+ * right, any number above MZ_IN_UNQUOTED is taken for it, and after the finish no phase is looked at. */
+#define MZ_BEGIN 0          /* it is not known yet */
+#define MZ_DUE 1            /* the answer can be taken */
+#define MZ_IN_SKIP 2        /* whitespace, where reading goes on after a fault */
+#define MZ_IN_SPACE 3       /* a key's first byte */
+#define MZ_IN_KEY 4         /* the key's end */
+#define MZ_AFTER_KEY 5      /* a byte behind the key that is no whitespace */
+#define MZ_BEFORE_VALUE 6   /* the value's first byte: there was a `=` */
+#define MZ_IN_DOUBLE 7      /* the closing `"` */
+#define MZ_IN_SINGLE 8      /* the closing `'` */
+#define MZ_IN_UNQUOTED 9    /* the whitespace behind an unquoted value; in XML mode the answer can be taken */
+
+/* Answers of mz_piece and mz_finish, beside 0, MZ_LEND_MORE and MZ_WRONG_LENGTH. All but 0 change nothing. */
+#define MZ_PIECE_TOO_LONG 31 /* more than MZ_HOLD bytes would be held */
+#define MZ_FINISHED 32       /* the finish has come before */
+
+/*
+ * Takes the next piece of the tag, of any length, 0 too. MZ_WRONG_LENGTH where `text` is longer than MZ_HOLD;
+ * then MZ_FINISHED; then MZ_PIECE_TOO_LONG; then MZ_LEND_MORE where `text` is shorter than all that would be
+ * held. With 0 the piece stands in `text` behind what was held, reader[4] and the phase have moved on, and
+ * reader[3] is 0.
+ *
+ * It costs a copy of the piece and one look at its bytes; the first piece after an answer looks at the bytes
+ * that are held behind that answer as well.
+ */
+size_t mz_piece(uint8_t *text, size_t text_len, size_t *reader, const uint8_t *piece, size_t piece_len);
+
+/* The finish: no piece follows, and what is held is the whole tag. 0 sets reader[5] to 1 and reader[3] to 0; or
+ * MZ_FINISHED. */
+size_t mz_finish(size_t *reader);
+
+/*
+ * Takes the answers that are there, as many as `out` has room for, written as mz_read_batch writes them. The
+ * number of answers is the result, and reader[3] says why there are no more:
+ *
+ *   MZ_OUT_FULL     `out` is full
+ *   MZ_END          none is there. After the finish this is the end; before it, more pieces are wanted
+ *   MZ_MORE_KEYS    one is there, and its key has no place in the key tables: lend longer ones and call again
+ *
+ * A call that finds none before the finish writes reader[3] and nothing else. One that finds some leaves the
+ * place and the recorded keys for the next call, as mz_read_batch does, and the phase MZ_BEGIN.
+ *
+ * MZ_BAD_STATE comes first, before the finish and after it: for a place or a recorded key that is none on the
+ * bytes held, as in mz_read_batch, and where more bytes are held than `text` has. It leaves, beside what it
+ * leaves there, no bytes held and the phase MZ_BEGIN; whether the finish has come stays. A reader that was
+ * opened as above, and was changed by these three functions alone, does not have it.
+ *
+ * A call costs the bytes of all recorded keys, which are hashed, those of a key whose value is awaited, and those
+ * that it reads for its answers: so give room for many, and a tag with long keys in short pieces few calls. After a piece the phase tells where a call would find nothing, and need not be made: in
+ * MZ_BEGIN, since reading has ended or its position is not reached, and in MZ_IN_SKIP to MZ_AFTER_KEY. From
+ * MZ_BEFORE_VALUE to MZ_IN_UNQUOTED one call for each key tells whether that is a duplicate or one too many; if it
+ * finds nothing, none is there before MZ_DUE, or in XML mode MZ_IN_UNQUOTED, or the finish. Whoever goes by that
+ * makes two calls for an attribute at most, however the tag is cut.
+ *
+ * Where `out` has no room for any answer nothing at all is written; and so it is with MZ_NONE.
+ */
+size_t mz_take(const uint8_t *text, size_t text_len,
+               size_t *starts, size_t starts_len,
+               size_t *ends, size_t ends_len,
+               uint32_t *hashes, size_t hashes_len,
+               size_t *reader,
+               bool html, bool checks,
+               size_t *out, size_t out_len);
+
 /* ---- Scopes ---- */
 
 #define MZ_TEXT 65536       /* bytes of text that a resolver can hold: elements of `text`, at most */
@@ -164,8 +284,8 @@ struct mz_resolver {
 #define MZ_FRESH_TEXT 73
 #define MZ_FRESH_RECORDS (2 * MZ_RECORD)
 
-/* 0, or a refusal. `detail` is set to its numbers, and to 0 where it has fewer; the listings also set the
- * place. Where more than one holds, MZ_WRONG_LENGTH comes first, and MZ_LEND_MORE last. */
+/* 0, MZ_LEND_MORE, MZ_WRONG_LENGTH, or a refusal. `detail` is set to its numbers, and to 0 where it has fewer; the
+ * listings also set the place. Where more than one holds, MZ_WRONG_LENGTH comes first, and MZ_LEND_MORE last. */
 #define MZ_INVALID_XML_PREFIX_BIND 12   /* bounds of the value */
 #define MZ_INVALID_XMLNS_PREFIX_BIND 13 /* bounds of the value */
 #define MZ_INVALID_PREFIX_FOR_XML 14    /* bounds of the prefix */
@@ -175,8 +295,6 @@ struct mz_resolver {
 #define MZ_BINDING_TABLE_FULL 18        /* MZ_RECORDS are in use */
 #define MZ_TEXT_FULL 19                 /* MZ_TEXT bytes would not do */
 #define MZ_BAD_RESOLVER 20
-#define MZ_LEND_MORE 98                 /* text or records are too short; nothing is changed */
-#define MZ_WRONG_LENGTH 99              /* what is in use is not lent, or an array is too long; nothing is changed */
 
 /* The resolver with no declarations: level 0, limit 128. */
 size_t mz_fresh(MZ_RESOLVER(MZ_CHANGED));

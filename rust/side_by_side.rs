@@ -36,7 +36,9 @@ fn attribute_error(error: AttrError) -> Error {
         AttrError::UnquotedValue(at) => Theirs::UnquotedValue(at),
         AttrError::ExpectedQuote(at, quote) => Theirs::ExpectedQuote(at, quote),
         AttrError::Duplicated(at, earlier) => Theirs::Duplicated(at, earlier),
-        AttrError::KeyTableFull(_) | AttrError::BadState => return limit(error),
+        AttrError::KeyTableFull(_) | AttrError::BadState | AttrError::NoText(_) => {
+            return limit(error);
+        }
     })
 }
 

@@ -4,8 +4,10 @@
  *   WRONG=mz_F AT=N WHAT=answer    the Nth answer of mz_F has its lowest bit turned
  *                   WHAT=first     what its first argument points to has, in its first byte; where the second argument
  *                                  is 0, and so may be the length of nothing, a later call's
- *                   WHAT=third     the same of its third
+ *                   WHAT=third     the same of its third, by the fourth
  *                   WHAT=seventh   the same of its seventh, by the eighth
+ *                   WHAT=ninth     the same of its ninth, which has a length of its own
+ *                   WHAT=sole      the same of its first, where there is no other
  *   COUNT=1                        at the end standard error gets how often each was called
  *
  * exports.h has a line EXPORT(mz_F) for each. The return address is kept aside, so that arguments on the stack are where the
@@ -20,7 +22,7 @@ struct fault {
     const char *name;
 };
 
-__attribute__((used)) void *back_to, *first, *second, *third, *seventh, *eighth, **pointed, **length;
+__attribute__((used)) void *back_to, *first, *second, *third, *fourth, *seventh, *eighth, *ninth, **pointed, **length;
 
 #define EXPORT(function) __attribute__((used)) struct fault fault_##function = {0, 0, #function};
 #include "exports.h"
@@ -55,10 +57,13 @@ __asm__(".text\n"
             " movq %rdi, first(%rip)\n"                        \
             " movq %rsi, second(%rip)\n"                       \
             " movq %rdx, third(%rip)\n"                        \
+            " movq %rcx, fourth(%rip)\n"                       \
             " movq (%rsp), %rax\n"                             \
             " movq %rax, seventh(%rip)\n"                      \
             " movq 8(%rsp), %rax\n"                            \
             " movq %rax, eighth(%rip)\n"                       \
+            " movq 16(%rsp), %rax\n"                           \
+            " movq %rax, ninth(%rip)\n"                        \
             " call true_" #function "\n"                       \
             " pushq back_to(%rip)\n"                           \
             " leaq fault_" #function "(%rip), %rcx\n"          \
@@ -99,7 +104,8 @@ __asm__(".text\n"
 #define EXPORT(function)                                              \
     __asm__(".globl " #function "\n" #function ":\n"                  \
             PUT("x30", "back_to") PUT("x0", "first") PUT("x1", "second") PUT("x2", "third") \
-            PUT("x6", "seventh") PUT("x7", "eighth")                  \
+            PUT("x3", "fourth") PUT("x6", "seventh") PUT("x7", "eighth") \
+            " ldr x9, [sp]\n" PUT("x9", "ninth")                      \
             " bl true_" #function "\n"                                \
             AT("fault_" #function)                                    \
             " mov x9, x10\n"                                          \
@@ -126,8 +132,16 @@ __attribute__((constructor)) static void ask(void) {
     const char *name = getenv("WRONG"), *at = getenv("AT"), *what = getenv("WHAT");
     if (!name || !at || !what)
         return;
-    pointed = !strcmp(what, "first") ? &first : !strcmp(what, "third") ? &third : !strcmp(what, "seventh") ? &seventh : NULL;
-    length = pointed == &seventh ? &eighth : &second;
+    static const struct {
+        const char *what;
+        void **pointed, **length;
+    } arguments[] = {{"first", &first, &second}, {"third", &third, &fourth}, {"seventh", &seventh, &eighth},
+                     {"ninth", &ninth, &ninth},  {"sole", &first, &first}};
+    for (size_t k = 0; k < sizeof arguments / sizeof *arguments; k++)
+        if (!strcmp(what, arguments[k].what)) {
+            pointed = arguments[k].pointed;
+            length = arguments[k].length;
+        }
     for (size_t k = 0; k < COUNT; k++)
         if (!strcmp(name, faults[k]->name))
             faults[k]->at = atol(at);

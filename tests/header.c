@@ -24,7 +24,7 @@ static void hold(const char *what, bool holds) {
 /* ---- Memory ---- */
 
 /* What was allocated, to be freed at the end. */
-static void *blocks[8000];
+static void *blocks[80000];
 static size_t block_count = 0;
 
 /* So many bytes, none of which is zero. */
@@ -139,6 +139,8 @@ static void layout(void) {
         {MZ_LAYOUT_NUMBER_SIZE, sizeof(size_t)},
         {MZ_LAYOUT_NUMBER_ALIGNMENT, offsetof(struct number, it)},
         {MZ_LAYOUT_HASH_SIZE, sizeof(uint32_t)},
+        {MZ_LAYOUT_READER, MZ_READER},
+        {MZ_LAYOUT_HOLD, MZ_HOLD},
     };
     for (size_t what = 0; what < COUNT(wanted); what++) {
         size_t said = mz_layout(what);
@@ -168,9 +170,11 @@ static void names(void) {
 #define DEFAULT(value) mz_verdict(BYTES("xmlns"), BYTES(value))
     hold("mz_verdict: a default", DEFAULT("u") == 1 && DEFAULT("") == 1 && DEFAULT(XML_URI) == 0 && DEFAULT(XMLNS_URI) == 0 &&
                                       DEFAULT(XML_URI "/") == 1 && DEFAULT(XMLNS_URI "/") == 1);
-    hold("mz_verdict: a byte less", DEFAULT("http://www.w3.org/XML/1998/namespac") == 1 && DEFAULT("http://www.w3.org/2000/xmlns") == 1);
+    hold("mz_verdict: a byte less", DEFAULT("http://www.w3.org/XML/1998/namespac") == 1 &&
+                                    DEFAULT("http://www.w3.org/2000/xmlns") == 1);
 #undef DEFAULT
-    hold("mz_verdict: xml", mz_verdict(BYTES("xmlns:xml"), BYTES(XML_URI)) == 1 && mz_verdict(BYTES("xmlns:xml"), BYTES("u")) == 0);
+    hold("mz_verdict: xml", mz_verdict(BYTES("xmlns:xml"), BYTES(XML_URI)) == 1 &&
+                            mz_verdict(BYTES("xmlns:xml"), BYTES("u")) == 0);
     hold("mz_as_bool", mz_as_bool(BYTES("false")) == 0 && mz_as_bool(BYTES("1")) == 1 &&
                            mz_as_bool(BYTES("True")) == 2);
 }
@@ -331,7 +335,8 @@ static void hashes(void) {
 #define READ(tag, checks, count) mz_read_batch(BYTES(tag), KEYS(it), false, checks, out, (count) * MZ_ANSWER)
     hold("a key is recorded", READ(tag, true, 1) == 1 && it.hashes[0] == HASH_A && are_unused(it, 1));
     hold("one more", READ(tag, true, 1) == 1 && it.hashes[0] == HASH_A && it.hashes[1] == HASH_FOOBAR && are_unused(it, 2));
-    hold("MZ_DUPLICATED writes none", READ(tag, true, 1) == 1 && is_answer(out, MZ_DUPLICATED, 15, 0, 0, 0) && are_unused(it, 2) &&
+    hold("MZ_DUPLICATED writes none", READ(tag, true, 1) == 1 && is_answer(out, MZ_DUPLICATED, 15, 0, 0, 0) &&
+                                      are_unused(it, 2) &&
                                           it.state[2] == 2);
     hold("with checks off none is written", READ(tag, false, 1) == 1 && is_answer(out, MZ_SINGLE_Q, 20, 21, 23, 23) &&
                                                 are_unused(it, 2) && it.state[2] == 2);
@@ -341,7 +346,8 @@ static void hashes(void) {
                                   is_answer(out + MZ_ANSWER, MZ_SINGLE_Q, 9, 14, 16, 16) &&
                                   is_answer(out + 2 * MZ_ANSWER, MZ_DUPLICATED, 18, 0, 0, 0) &&
                                   is_answer(out + 3 * MZ_ANSWER, MZ_DUPLICATED, 27, 9, 0, 0));
-    hold("their hashes", it.hashes[0] == HASH_YACZF_GLBPP && it.hashes[1] == HASH_YACZF_GLBPP && are_unused(it, 2) && it.state[2] == 2);
+    hold("their hashes", it.hashes[0] == HASH_YACZF_GLBPP && it.hashes[1] == HASH_YACZF_GLBPP && are_unused(it, 2) &&
+                         it.state[2] == 2);
     for (size_t checks = 0; checks < 2; checks++) {
         for (size_t index = 0; index < 2; index++) {
             for (size_t bit = 0; bit < 32; bit++) {
@@ -381,7 +387,8 @@ static void shortest(void) {
         it = lent_keys(table == 0 ? 0 : 3, table == 1 ? 0 : 1, table == 2 ? 0 : MZ_KEYS, MZ_NEXT, 0);
         hold("a table of no place", mz_read_batch(BYTES(tag), KEYS(it), false, true, out, 3 * MZ_ANSWER) == 0 &&
                                         is_at(it, MZ_NEXT, 0, 0, MZ_MORE_KEYS) && are_unused(it, 0) &&
-                                        mz_read_batch(BYTES(tag), KEYS(it), false, false, out, 3 * MZ_ANSWER) == 3 && are_unused(it, 0));
+                                        mz_read_batch(BYTES(tag), KEYS(it), false, false, out, 3 * MZ_ANSWER) == 3 &&
+                                        are_unused(it, 0));
     }
     for (size_t more = 0; more < 3; more++) {
         struct reader it = opened(MZ_KEYS, MZ_NEXT, 0);
@@ -438,6 +445,583 @@ static void more_keys(void) {
                                   !memcmp(it.hashes, full.hashes, MZ_KEYS * sizeof(uint32_t)));
 }
 
+/* ---- Tags that arrive in pieces ---- */
+
+/* A reader, with its text and its key tables, and how it is read. */
+struct pieces {
+    uint8_t *text;
+    size_t text_len;
+    struct reader keys; /* its state is not used */
+    size_t *reader;
+    bool html, checks;
+};
+
+/* One that is opened at a position, with so many bytes of text and so many places for keys. */
+static struct pieces lent_pieces(size_t text_len, size_t places, size_t position) {
+    struct pieces it;
+    it.text = (uint8_t *)block(text_len);
+    it.text_len = text_len;
+    it.keys = opened(places, MZ_DONE, 0);
+    it.reader = numbers(MZ_READER);
+    memset(it.reader, 0, MZ_READER * sizeof(size_t));
+    it.reader[0] = MZ_NEXT;
+    it.reader[1] = position;
+    it.html = false;
+    it.checks = true;
+    return it;
+}
+
+/* A copy of all its memory, in arrays of other lengths: cut, or with what is not set behind. */
+static struct pieces copy_of(const struct pieces *from, size_t text_len, size_t places) {
+    struct pieces it = lent_pieces(text_len, places, 0);
+    const size_t *had = from->keys.places;
+    memcpy(it.text, from->text, text_len < from->text_len ? text_len : from->text_len);
+    memcpy(it.keys.starts, from->keys.starts, (places < had[0] ? places : had[0]) * sizeof(size_t));
+    memcpy(it.keys.ends, from->keys.ends, (places < had[1] ? places : had[1]) * sizeof(size_t));
+    memcpy(it.keys.hashes, from->keys.hashes, (places < had[2] ? places : had[2]) * sizeof(uint32_t));
+    memcpy(it.reader, from->reader, MZ_READER * sizeof(size_t));
+    it.html = from->html;
+    it.checks = from->checks;
+    return it;
+}
+
+#define COPY(it) copy_of(&(it), (it).text_len, (it).keys.places[0])
+
+/* Whether all memory is the same, bit by bit, but for the reason, which is `why`. */
+static bool is_copy(const struct pieces *a, const struct pieces *b, size_t why) {
+    const size_t *places = a->keys.places;
+    return a->reader[3] == why && !memcmp(a->reader, b->reader, 3 * sizeof(size_t)) &&
+           !memcmp(a->reader + 4, b->reader + 4, (MZ_READER - 4) * sizeof(size_t)) && !memcmp(a->text, b->text, a->text_len) &&
+           !memcmp(a->keys.starts, b->keys.starts, places[0] * sizeof(size_t)) &&
+           !memcmp(a->keys.ends, b->keys.ends, places[1] * sizeof(size_t)) &&
+           !memcmp(a->keys.hashes, b->keys.hashes, places[2] * sizeof(uint32_t));
+}
+
+static bool is_same(const struct pieces *a, const struct pieces *b) {
+    return is_copy(a, b, b->reader[3]);
+}
+
+#define PIECE(it, bytes) mz_piece((it).text, (it).text_len, (it).reader, BYTES(bytes))
+#define TAKE(it, out, out_len)                                                                                          \
+    mz_take((it).text, (it).text_len, (it).keys.starts, (it).keys.places[0], (it).keys.ends, (it).keys.places[1],       \
+            (it).keys.hashes, (it).keys.places[2], (it).reader, (it).html, (it).checks, out, out_len)
+
+/* All nine numbers. */
+static bool is_reader(const struct pieces *it, size_t kind, size_t position, size_t keys, size_t why, size_t held,
+                      size_t finished, size_t phase, size_t start, size_t end) {
+    const size_t wanted[] = {kind, position, keys, why, held, finished, phase, start, end};
+    return !memcmp(it->reader, wanted, sizeof wanted);
+}
+
+static bool is_phase(const struct pieces *it, size_t phase, size_t start, size_t end) {
+    return it->reader[6] == phase && it->reader[7] == start && it->reader[8] == end;
+}
+
+/* Nothing is there, and that changes nothing but the reason, whatever room there is; nor does it write an answer. */
+static bool is_more(struct pieces *it) {
+    struct pieces before = COPY(*it);
+    size_t *out = numbers(2 * MZ_ANSWER);
+    bool holds = TAKE(*it, out, 2 * MZ_ANSWER) == 0 && is_copy(it, &before, MZ_END);
+    holds = holds && TAKE(*it, out, MZ_ANSWER) == 0 && is_copy(it, &before, MZ_END);
+    return holds && are_untouched(out, 2 * MZ_ANSWER);
+}
+
+/* One answer is there, and no other: with room for one, and with room for two, which leave the same but the reason. */
+static bool gives(struct pieces *it, size_t what, size_t a, size_t b, size_t c, size_t d) {
+    struct pieces other = COPY(*it);
+    size_t *one = numbers(MZ_ANSWER), *two = numbers(2 * MZ_ANSWER);
+    bool holds = TAKE(other, one, MZ_ANSWER) == 1 && is_answer(one, what, a, b, c, d) && other.reader[3] == MZ_OUT_FULL &&
+                 is_phase(&other, MZ_BEGIN, 0, 0);
+    return holds && TAKE(*it, two, 2 * MZ_ANSWER) == 1 && is_answer(two, what, a, b, c, d) &&
+           are_untouched(two + MZ_ANSWER, MZ_ANSWER) &&
+           (it->reader[5] != 0 || is_copy(it, &other, MZ_END));
+}
+
+/* A tag byte by byte: with how many bytes each answer is there is what `moments` says, a digit or `f` for the finish;
+ * nothing is at any other time. */
+static void comes(const char *tag, bool html, bool checks, const char *moments, const size_t (*wanted)[MZ_ANSWER]) {
+    struct pieces it = lent_pieces(strlen(tag), 8, 0);
+    size_t answers = 0, *out = numbers(2 * MZ_ANSWER);
+    it.html = html;
+    it.checks = checks;
+    for (size_t at = 0; at <= strlen(tag); at++) {
+        char now = at == strlen(tag) ? 'f' : (char)(at < 10 ? '0' + at : 'a' + at - 10);
+        bool holds = at == strlen(tag) ? mz_finish(it.reader) == 0 : mz_piece(it.text, it.text_len, it.reader, copied(tag + at), 1) == 0;
+        for (; moments[answers] == now; answers++) {
+            holds = holds && TAKE(it, out, MZ_ANSWER) == 1 && !memcmp(out, wanted[answers], MZ_ANSWER * sizeof(size_t)) &&
+                    it.reader[3] == MZ_OUT_FULL;
+        }
+        holds = holds && (at < strlen(tag) ? is_more(&it) : TAKE(it, out, MZ_ANSWER) == 0 && it.reader[3] == MZ_END);
+        if (!holds) {
+            printf("header.c: %s, html %d, checks %d, at byte %lu\n", tag, html, checks, (unsigned long)at);
+            wrong++;
+            return;
+        }
+    }
+    hold("an answer that does not come", moments[answers] == 0);
+}
+
+/* The last byte that each answer's rule looks at. */
+static void moments(void) {
+    const size_t quoted[][MZ_ANSWER] = {{MZ_SINGLE_Q, 0, 1, 3, 4}, {MZ_DOUBLE_Q, 5, 6, 8, 8}};
+    const size_t unquoted[][MZ_ANSWER] = {{MZ_UNQUOTED_VALUE, 2, 0, 0, 0}, {MZ_UNQUOTED, 0, 1, 2, 3}};
+    const size_t bare[][MZ_ANSWER] = {{MZ_EXPECTED_EQ, 3, 0, 0, 0}, {MZ_EMPTY, 0, 1, 0, 0}};
+    const size_t cut[][MZ_ANSWER] = {{MZ_EXPECTED_QUOTE, 4, '"', 0, 0}, {MZ_EXPECTED_VALUE, 3, 0, 0, 0}};
+    const size_t again[][MZ_ANSWER] = {{MZ_SINGLE_Q, 0, 1, 3, 3}, {MZ_DUPLICATED, 5, 0, 0, 0}};
+    const size_t bare_again[][MZ_ANSWER] = {{MZ_EMPTY, 0, 1, 0, 0}, {MZ_DUPLICATED, 2, 0, 0, 0}, {MZ_EMPTY, 5, 6, 0, 0}};
+    const size_t empty[][MZ_ANSWER] = {{MZ_EMPTY, 0, 1, 0, 0}, {MZ_EXPECTED_VALUE, 5, 0, 0, 0}};
+    const size_t no_eq[][MZ_ANSWER] = {{MZ_EXPECTED_EQ, 3, 0, 0, 0}, {MZ_EXPECTED_VALUE, 5, 0, 0, 0}};
+    const size_t unchecked[][MZ_ANSWER] = {{MZ_SINGLE_Q, 0, 1, 3, 3}, {MZ_EXPECTED_QUOTE, 9, '\'', 0, 0}};
+    const size_t skipped[][MZ_ANSWER] = {{MZ_UNQUOTED_VALUE, 2, 0, 0, 0}, {MZ_SINGLE_Q, 5, 6, 8, 8}};
+    comes("a='1'b=\"\"", false, true, "48", quoted);
+    comes("a='1'b=\"\"", true, false, "48", quoted);
+    comes("a=1", false, true, "2", unquoted);
+    comes("a=1", true, true, "f", unquoted + 1);
+    comes("a=1 ", true, true, "3", unquoted + 1);
+    comes("a  ", false, true, "f", bare);
+    comes("a  ", true, true, "f", bare + 1);
+    comes("a  b=", true, true, "3f", empty);
+    comes("a  b=", false, true, "3f", no_eq);
+    comes("a=\"1", false, true, "f", cut);
+    comes("a= ", true, true, "f", cut + 1);
+    /* a duplicate with its `=`, and what follows waits for whitespace */
+    comes("a='' a='b", false, true, "36", again);
+    comes("a='' a='b", true, true, "36", again);
+    comes("a='' a='b", false, false, "3f", unchecked);
+    comes("a a  b", true, true, "25f", bare_again);
+    comes("a=1x b=''", false, true, "28", skipped);
+    comes("", false, true, "", quoted);
+    comes(" \t\r\n", true, true, "", quoted);
+}
+
+/* What pieces and takes leave in each number. */
+static void phases(void) {
+    struct pieces it = lent_pieces(40, 4, 0);
+    hold("mz_piece: nothing", PIECE(it, "") == 0 && is_reader(&it, MZ_NEXT, 0, 0, 0, 0, 0, MZ_IN_SPACE, 0, 0));
+    hold("MZ_IN_SPACE", PIECE(it, " \t") == 0 && is_reader(&it, MZ_NEXT, 0, 0, 0, 2, 0, MZ_IN_SPACE, 0, 0) && is_more(&it));
+    hold("mz_piece: the reason", it.reader[3] == MZ_END && PIECE(it, "k") == 0 && it.reader[3] == 0);
+    hold("MZ_IN_KEY", is_reader(&it, MZ_NEXT, 0, 0, 0, 3, 0, MZ_IN_KEY, 2, 0) && is_more(&it) && PIECE(it, "ey") == 0 &&
+                          is_phase(&it, MZ_IN_KEY, 2, 0));
+    hold("MZ_AFTER_KEY", PIECE(it, "\r ") == 0 && is_reader(&it, MZ_NEXT, 0, 0, 0, 7, 0, MZ_AFTER_KEY, 2, 5) && is_more(&it));
+    hold("MZ_BEFORE_VALUE", PIECE(it, "=\n") == 0 && is_reader(&it, MZ_NEXT, 0, 0, 0, 9, 0, MZ_BEFORE_VALUE, 2, 5) &&
+                            is_more(&it));
+    hold("MZ_IN_DOUBLE", PIECE(it, "\"'") == 0 && is_reader(&it, MZ_NEXT, 0, 0, 0, 11, 0, MZ_IN_DOUBLE, 2, 5) && is_more(&it));
+    hold("MZ_DUE", PIECE(it, "\" ") == 0 && is_reader(&it, MZ_NEXT, 0, 0, 0, 13, 0, MZ_DUE, 0, 0) &&
+                   !memcmp(it.text, " \tkey\r =\n\"'\" ", 13) &&
+                       it.text[13] == 0x5a);
+    hold("MZ_DUE: it stays", PIECE(it, "a=") == 0 && is_phase(&it, MZ_DUE, 0, 0));
+    hold("an answer sets it back", gives(&it, MZ_DOUBLE_Q, 2, 5, 10, 11) &&
+                                   is_reader(&it, MZ_NEXT, 12, 1, MZ_END, 15, 0, MZ_BEGIN, 0, 0));
+    hold("a piece after it", PIECE(it, "'") == 0 && is_phase(&it, MZ_IN_SINGLE, 13, 14) && is_more(&it) && PIECE(it, "'") == 0 &&
+                                 is_phase(&it, MZ_DUE, 0, 0) && gives(&it, MZ_SINGLE_Q, 13, 14, 16, 16));
+    hold("MZ_IN_UNQUOTED", PIECE(it, "b=1") == 0 && is_reader(&it, MZ_NEXT, 17, 2, 0, 20, 0, MZ_IN_UNQUOTED, 17, 18));
+    {
+        struct pieces html = COPY(it);
+        html.html = true;
+        hold("MZ_IN_UNQUOTED: in HTML mode", is_more(&html) && PIECE(html, " ") == 0 && is_phase(&html, MZ_DUE, 0, 0) &&
+                                                 gives(&html, MZ_UNQUOTED, 17, 18, 19, 20));
+    }
+    hold("MZ_IN_UNQUOTED: in XML mode", gives(&it, MZ_UNQUOTED_VALUE, 19, 0, 0, 0) &&
+                                            is_reader(&it, MZ_SKIP_VALUE, 19, 3, MZ_END, 20, 0, MZ_BEGIN, 0, 0));
+    hold("MZ_IN_SKIP", PIECE(it, "1") == 0 && is_reader(&it, MZ_SKIP_VALUE, 19, 3, 0, 21, 0, MZ_IN_SKIP, 0, 0) && is_more(&it) &&
+                           PIECE(it, " ") == 0 && is_phase(&it, MZ_IN_SPACE, 0, 0));
+    hold("a duplicate", PIECE(it, "key=") == 0 && is_phase(&it, MZ_BEFORE_VALUE, 22, 25) &&
+                        gives(&it, MZ_DUPLICATED, 22, 2, 0, 0) &&
+                            is_reader(&it, MZ_SKIP_FROM_EQ, 25, 3, MZ_END, 26, 0, MZ_BEGIN, 0, 0) && is_more(&it));
+    hold("a bare key", PIECE(it, "' c d") == 0 && is_phase(&it, MZ_DUE, 0, 0) && gives(&it, MZ_EXPECTED_EQ, 30, 0, 0, 0) &&
+                           is_reader(&it, MZ_NEXT, 30, 3, MZ_END, 31, 0, MZ_BEGIN, 0, 0));
+    hold("mz_finish", mz_finish(it.reader) == 0 && is_reader(&it, MZ_NEXT, 30, 3, 0, 31, 1, MZ_BEGIN, 0, 0) &&
+                          gives(&it, MZ_EXPECTED_EQ, 31, 0, 0, 0) &&
+                          is_reader(&it, MZ_DONE, 0, 3, MZ_END, 31, 1, MZ_BEGIN, 0, 0));
+    it = lent_pieces(8, 1, 0);
+    hold("the end leaves the phase", PIECE(it, "  ") == 0 && mz_finish(it.reader) == 0 &&
+                                     TAKE(it, numbers(MZ_ANSWER), MZ_ANSWER) == 0 &&
+                                         is_reader(&it, MZ_DONE, 0, 0, MZ_END, 2, 1, MZ_IN_SPACE, 0, 0));
+}
+
+/* The whole tag, opened at some position, in one piece, in two and byte by byte: the answers of mz_read_batch, and what it leaves. */
+static void as_the_whole(const char *tag, size_t position, bool html, bool checks) {
+    size_t len = strlen(tag), room = (len + 2) * MZ_ANSWER, *all = numbers(room), *out = numbers(room), wanted;
+    struct reader whole = opened(8, MZ_NEXT, position);
+    wanted = mz_read_batch(BYTES(tag), KEYS(whole), html, checks, all, room);
+    for (size_t cut = 0; cut <= len; cut++) {
+        struct pieces it = lent_pieces(len, 8, position);
+        size_t got = 0;
+        it.html = html;
+        it.checks = checks;
+        hold("a tag that is cut", mz_piece(it.text, len, it.reader, copied(tag), cut) == 0);
+        got += cut % 2 == 1 ? 0 : TAKE(it, out, room);
+        hold("its other part", mz_piece(it.text, len, it.reader, copied(tag + cut), len - cut) == 0);
+        got += cut % 3 == 1 ? 0 : TAKE(it, out + got * MZ_ANSWER, room - got * MZ_ANSWER);
+        hold("its finish", mz_finish(it.reader) == 0);
+        got += TAKE(it, out + got * MZ_ANSWER, room - got * MZ_ANSWER);
+        hold("its answers", got == wanted && !memcmp(all, out, got * MZ_ANSWER * sizeof(size_t)) &&
+                                !memcmp(it.reader, whole.state, MZ_STATE * sizeof(size_t)) && it.reader[3] == MZ_END);
+        hold("its keys", !memcmp(it.keys.starts, whole.starts, 8 * sizeof(size_t)) &&
+                         !memcmp(it.keys.ends, whole.ends, 8 * sizeof(size_t)) &&
+                             !memcmp(it.keys.hashes, whole.hashes, 8 * sizeof(uint32_t)));
+    }
+}
+
+/* Every refusal leaves everything as it is; where more than one holds: 99, 32, 31, 98. */
+static void refused_pieces(void) {
+    const size_t finishes[] = {1, 2, 256, SIZE_MAX}, others[] = {0, 1, 65535, MZ_HOLD};
+    uint8_t *long_piece = (uint8_t *)block(MZ_HOLD + 1);
+    struct pieces it = lent_pieces(MZ_HOLD, 2, 0), before;
+    memset(long_piece, ' ', MZ_HOLD + 1);
+#define GIVE(it, len) mz_piece((it).text, (it).text_len, (it).reader, long_piece, len)
+#define REFUSES(it, call, answer) (before = COPY(it), (call) == (answer) && is_same(&(it), &before))
+    it.reader[3] = 77;
+    hold("MZ_PIECE_TOO_LONG", REFUSES(it, GIVE(it, MZ_HOLD + 1), MZ_PIECE_TOO_LONG));
+    hold("a piece as long as can be", GIVE(it, MZ_HOLD) == 0 && it.reader[4] == MZ_HOLD);
+    hold("nothing more", GIVE(it, 0) == 0 && is_reader(&it, MZ_NEXT, 0, 0, 0, MZ_HOLD, 0, MZ_IN_SPACE, 0, 0));
+    hold("a byte more", REFUSES(it, GIVE(it, 1), MZ_PIECE_TOO_LONG));
+    hold("the finish of it", mz_finish(it.reader) == 0);
+    hold("MZ_FINISHED comes first", REFUSES(it, GIVE(it, 1), MZ_FINISHED) && REFUSES(it, GIVE(it, 0), MZ_FINISHED) &&
+                                        REFUSES(it, GIVE(it, MZ_HOLD + 1), MZ_FINISHED) &&
+                                        REFUSES(it, mz_piece(it.text, it.text_len, it.reader, NULL, 0), MZ_FINISHED));
+    hold("a second finish", REFUSES(it, mz_finish(it.reader), MZ_FINISHED));
+    for (size_t k = 0; k < COUNT(finishes); k++) {
+        it = lent_pieces(3, 2, 0);
+        it.reader[5] = finishes[k];
+        hold("finished by any number", REFUSES(it, GIVE(it, 1), MZ_FINISHED) && REFUSES(it, GIVE(it, 9), MZ_FINISHED) &&
+                                           REFUSES(it, mz_finish(it.reader), MZ_FINISHED));
+        it.reader[4] = MZ_HOLD + 1;
+        hold("finished, and too much held", REFUSES(it, GIVE(it, 0), MZ_FINISHED));
+    }
+    /* a text that is too long, or too short */
+    it = lent_pieces(MZ_HOLD + 1, 2, 0);
+    hold("MZ_WRONG_LENGTH: a text", REFUSES(it, GIVE(it, 0), MZ_WRONG_LENGTH) &&
+                                    REFUSES(it, GIVE(it, MZ_HOLD + 1), MZ_WRONG_LENGTH));
+    it.reader[5] = 1;
+    hold("MZ_WRONG_LENGTH comes first", REFUSES(it, GIVE(it, 1), MZ_WRONG_LENGTH));
+    it = lent_pieces(4, 2, 0);
+    hold("MZ_LEND_MORE: a piece", REFUSES(it, PIECE(it, "a='1'"), MZ_LEND_MORE) && PIECE(it, "a='") == 0 &&
+                                  REFUSES(it, PIECE(it, "1'"), MZ_LEND_MORE));
+    hold("MZ_PIECE_TOO_LONG comes first", REFUSES(it, GIVE(it, MZ_HOLD), MZ_PIECE_TOO_LONG) &&
+                                          REFUSES(it, GIVE(it, MZ_HOLD - 3), MZ_LEND_MORE));
+    it = copy_of(&it, 5, 2);
+    hold("lent as long as is needed", PIECE(it, "1'") == 0 && gives(&it, MZ_SINGLE_Q, 0, 1, 3, 4) && PIECE(it, "") == 0 &&
+                                          REFUSES(it, GIVE(it, 1), MZ_LEND_MORE));
+    /* more held than can be, or than is lent: for a piece it is too long, or wants more */
+    for (size_t k = 0; k < COUNT(others); k++) {
+        it = lent_pieces(others[k], 2, 0);
+        it.reader[4] = MZ_HOLD + 1;
+        hold("more held than can be", REFUSES(it, GIVE(it, 0), MZ_PIECE_TOO_LONG) && REFUSES(it, GIVE(it, 1), MZ_PIECE_TOO_LONG));
+        it.reader[4] = SIZE_MAX;
+        hold("held without end", REFUSES(it, GIVE(it, 0), MZ_PIECE_TOO_LONG) && REFUSES(it, GIVE(it, 1), MZ_PIECE_TOO_LONG) &&
+                                     REFUSES(it, GIVE(it, 2), MZ_PIECE_TOO_LONG));
+        hold("the finish never asks", mz_finish(it.reader) == 0 && is_reader(&it, MZ_NEXT, 0, 0, 0, SIZE_MAX, 1, 0, 0, 0));
+        it = lent_pieces(others[k], 2, 0);
+        it.reader[4] = others[k] + 1;
+        hold("more held than is lent", REFUSES(it, GIVE(it, 0), others[k] == MZ_HOLD ? MZ_PIECE_TOO_LONG : MZ_LEND_MORE));
+    }
+    it = lent_pieces(0, 0, 0);
+    hold("null: a piece", mz_piece(NULL, 0, it.reader, NULL, 0) == 0 &&
+                          is_reader(&it, MZ_NEXT, 0, 0, 0, 0, 0, MZ_IN_SPACE, 0, 0) &&
+                              mz_piece(NULL, 0, it.reader, long_piece, 1) == MZ_LEND_MORE &&
+                              mz_take(NULL, 0, NULL, 0, NULL, 0, NULL, 0, it.reader, false, true, NULL, 0) == 0 &&
+                              it.reader[3] == 0);
+#undef REFUSES
+#undef GIVE
+}
+
+/* A reader that is answered by MZ_BAD_STATE: with room for one answer and for more, finished or not, in some phases. The text
+ * is left. */
+static void is_bad_reader(const char *what, const struct pieces *from) {
+    for (size_t k = 0; k < 6; k++) {
+        struct pieces it = copy_of(from, from->text_len, from->keys.places[0]), before;
+        size_t room = MZ_ANSWER * (1 + k % 2) + k % 3, *out = numbers(room), finished = k < 2 ? 0 : k < 4 ? 1 : 700;
+        size_t position = it.reader[0] == MZ_DONE ? it.reader[1] : 0;
+        it.reader[5] = finished;
+        it.reader[6] = k == 0 ? it.reader[6] : MZ_BEGIN + 2 * k; /* it comes first, whatever the phase says */
+        before = COPY(it);
+        hold(what, TAKE(it, out, room) == 1 && is_answer(out, MZ_BAD_STATE, 0, 0, 0, 0) &&
+                   are_untouched(out + MZ_ANSWER, room - MZ_ANSWER) &&
+                       is_reader(&it, MZ_DONE, position, 0, room < 2 * MZ_ANSWER ? MZ_OUT_FULL : MZ_END, 0, finished, MZ_BEGIN, 0, 0) &&
+                       are_zeros(it.keys) && !memcmp(it.text, before.text, it.text_len));
+        /* then there is nothing, and a piece as long as can be is taken if it is not finished */
+        hold("after it", TAKE(it, out, room) == 0 && is_reader(&it, MZ_DONE, position, 0, MZ_END, 0, finished, MZ_BEGIN, 0, 0));
+        hold("a piece after it", PIECE(it, "") == (finished ? MZ_FINISHED : 0) && is_phase(&it, MZ_BEGIN, 0, 0));
+    }
+}
+
+/* Readers made by hand. */
+static void bad_readers(void) {
+    struct pieces good = lent_pieces(9, 3, 0), it;
+    hold("a good reader", PIECE(good, "a='1' b='") == 0 && gives(&good, MZ_SINGLE_Q, 0, 1, 3, 4) && PIECE(good, "") == 0 &&
+                              is_phase(&good, MZ_IN_SINGLE, 6, 7));
+#define WITH(index, number) (it = COPY(good), it.reader[index] = (number), &it)
+    is_bad_reader("held: one more than is lent", WITH(4, 10));
+    is_bad_reader("held: one more than can be", WITH(4, MZ_HOLD + 1));
+    is_bad_reader("held: without end", WITH(4, SIZE_MAX));
+    is_bad_reader("held: less than a key", WITH(4, 0));
+    is_bad_reader("a kind that is none", WITH(0, 4));
+    is_bad_reader("a kind without end", WITH(0, SIZE_MAX));
+    is_bad_reader("more keys than places", WITH(2, 4));
+    is_bad_reader("keys without end", WITH(2, SIZE_MAX));
+    it = COPY(good);
+    it.keys.hashes[0] ^= 1;
+    is_bad_reader("a hash that is not its key's", &it);
+    it.checks = false;
+    is_bad_reader("a hash that is not its key's, checks off", &it);
+    it.reader[0] = MZ_DONE;
+    it.reader[1] = 5;
+    is_bad_reader("beside done", &it);
+    it = COPY(good);
+    it.keys.ends[0] = it.keys.starts[0];
+    is_bad_reader("an empty key", &it);
+    for (size_t kind = MZ_SKIP_VALUE; kind <= MZ_SKIP_FROM_EQ; kind++) {
+        it = COPY(good);
+        it.reader[0] = kind;
+        it.reader[1] = 9;
+        is_bad_reader("a skip from what is not held", &it);
+        it.reader[1] = SIZE_MAX;
+        is_bad_reader("a skip from far behind", &it);
+        it.reader[2] = 0;
+        is_bad_reader("a skip from far behind, and no keys", &it);
+        it.reader[2] = 1;
+        /* good on the whole tag, and not on what is held */
+        it.reader[1] = 8;
+        it.reader[4] = 8;
+        is_bad_reader("a skip from what is lent and not held", &it);
+    }
+    it = COPY(good);
+    it.reader[0] = MZ_SKIP_FROM_EQ;
+    it.reader[1] = 8;
+    is_bad_reader("a skip from `=` at another byte", &it);
+    /* all places of tables of different lengths are set to zeros */
+    for (size_t table = 0; table < 3; table++) {
+        it = COPY(good);
+        it.keys = lent_keys(table == 0 ? 1 : 7, table == 1 ? 1 : 8, table == 2 ? 1 : 9, 0, 0);
+        it.reader[2] = 2;
+        hold("more keys than the shortest table has places",
+             TAKE(it, numbers(MZ_ANSWER), MZ_ANSWER) == 1 && it.reader[4] == 0 && are_zeros(it.keys));
+    }
+    it = lent_pieces(MZ_HOLD, 1, 0);
+    memset(it.text, ' ', MZ_HOLD);
+    it.reader[4] = MZ_HOLD + 1;
+    is_bad_reader("one byte too many, and all that can be lent", &it);
+    /* then none is held, and all that can be may come */
+    {
+        size_t *out = numbers(MZ_ANSWER);
+        uint8_t *all = (uint8_t *)memset(block(MZ_HOLD), 'a', MZ_HOLD);
+        hold("all that can be held, after MZ_BAD_STATE",
+             TAKE(it, out, MZ_ANSWER) == 1 && out[0] == MZ_BAD_STATE && it.reader[4] == 0 &&
+                 mz_piece(it.text, MZ_HOLD, it.reader, all, MZ_HOLD) == 0 && it.reader[4] == MZ_HOLD && is_more(&it));
+    }
+#undef WITH
+}
+
+/* Phases that lie: they can make it wait, and no answer wrong or early; after the finish they are nothing. */
+static void lying_phases(void) {
+    const size_t none[] = {10, 11, 255, 256, SIZE_MAX / 2, SIZE_MAX - 1, SIZE_MAX};
+    struct pieces ready = lent_pieces(16, 3, 0), it, before;
+    memcpy(ready.text, "a='1' b='2' a=xy", 16);
+    ready.reader[4] = 5;
+    for (size_t k = 0; k < COUNT(none); k++) {
+        it = COPY(ready);
+        it.reader[6] = none[k];
+        hold("a phase that is none", gives(&it, MZ_SINGLE_Q, 0, 1, 3, 4) &&
+                                     is_reader(&it, MZ_NEXT, 5, 1, MZ_END, 5, 0, MZ_BEGIN, 0, 0));
+        it = COPY(ready);
+        it.reader[6] = none[k];
+        it.reader[7] = it.reader[8] = SIZE_MAX;
+        it.reader[4] = 3;
+        hold("a phase that is none, carried on", is_more(&it) && mz_piece(it.text, 16, it.reader, copied("1"), 1) == 0 &&
+                                                     is_phase(&it, MZ_IN_SINGLE, 0, 1));
+    }
+    for (size_t phase = MZ_IN_SKIP; phase <= MZ_IN_UNQUOTED; phase++) {
+        it = COPY(ready);
+        it.reader[6] = phase;
+        it.html = true;
+        hold("a phase that waits for nothing", is_more(&it) && mz_finish(it.reader) == 0 && gives(&it, MZ_SINGLE_Q, 0, 1, 3, 4));
+        it.html = false;
+        it.reader[0] = MZ_NEXT;
+        it.reader[1] = 5;
+        it.reader[4] = 11;
+        it.reader[5] = 0;
+        it.reader[6] = phase;
+        it.reader[7] = it.reader[8] = SIZE_MAX;
+        hold("a phase with any key", phase == MZ_IN_UNQUOTED ? gives(&it, MZ_SINGLE_Q, 6, 7, 9, 10) : is_more(&it));
+    }
+    for (size_t phase = MZ_BEGIN; phase <= MZ_DUE; phase++) {
+        it = COPY(ready);
+        it.reader[4] = 4;
+        it.reader[6] = phase;
+        it.reader[7] = it.reader[8] = SIZE_MAX;
+        hold("a phase that says too much", is_more(&it));
+    }
+    /* from MZ_BEFORE_VALUE on a key that is recorded does not wait, if it is one */
+    for (size_t phase = MZ_BEFORE_VALUE; phase <= MZ_IN_UNQUOTED; phase++) {
+        const size_t bounds[][3] = {{0, 1, 1}, {12, 13, 1}, {6, 7, 0}, {1, 0, 0}, {0, 0, 0},
+                                    {0, 17, 0}, {SIZE_MAX, 1, 0}, {0, SIZE_MAX, 0}};
+        for (size_t k = 0; k < COUNT(bounds); k++) {
+            size_t *out = numbers(MZ_ANSWER);
+            it = COPY(ready);
+            it.html = true;
+            hold("a key that is recorded", TAKE(it, out, MZ_ANSWER) == 1 && it.reader[2] == 1);
+            it.reader[4] = 16;
+            it.reader[6] = phase;
+            it.reader[7] = bounds[k][0];
+            it.reader[8] = bounds[k][1];
+            if (bounds[k][2] == 0) {
+                hold("another key waits", is_more(&it));
+                continue;
+            }
+            before = COPY(it);
+            before.checks = false;
+            hold("it waits with checks off", is_more(&before));
+            hold("a key that is refused does not wait",
+                 TAKE(it, out, MZ_ANSWER) == 1 && is_answer(out, MZ_SINGLE_Q, 6, 7, 9, 10));
+        }
+    }
+    /* what a piece makes of numbers that no phase has */
+    it = lent_pieces(4, 0, 0);
+    it.reader[6] = MZ_IN_SPACE;
+    it.reader[7] = it.reader[8] = 99;
+    hold("numbers that a phase has not", PIECE(it, "") == 0 && is_phase(&it, MZ_IN_SPACE, 0, 0));
+    /* a kind that is none is a skip from the end of what was held */
+    it.reader[0] = 4;
+    it.reader[6] = MZ_BEGIN;
+    hold("a kind that is none, and a piece", PIECE(it, "") == 0 && is_phase(&it, MZ_IN_SKIP, 0, 0));
+    it.reader[6] = SIZE_MAX;
+    hold("a kind that is none, and whitespace",
+         PIECE(it, " ") == 0 && is_reader(&it, 4, 0, 0, 0, 1, 0, MZ_IN_SPACE, 0, 0));
+    it.reader[6] = MZ_IN_KEY;
+    it.reader[7] = it.reader[8] = 99;
+    hold("a key's end that is not known", PIECE(it, "a") == 0 && is_phase(&it, MZ_IN_KEY, 99, 0) && PIECE(it, " ") == 0 &&
+                                              is_phase(&it, MZ_AFTER_KEY, 99, 2));
+}
+
+/* The other traps: a key that is recorded by nothing, places past the end, room, tables. */
+static void traps(void) {
+    struct pieces it = lent_pieces(16, 2, 0), before;
+    size_t *out = numbers(3 * MZ_ANSWER);
+    /* *more* records no key: not one of a value that is not there, with or without a phase */
+    hold("a key without its value", PIECE(it, "a=") == 0 && is_more(&it) && are_unused(it.keys, 0));
+    it.reader[6] = it.reader[7] = it.reader[8] = 0;
+    hold("a key without its value, phase 0", is_more(&it) && are_unused(it.keys, 0) && it.reader[2] == 0);
+    hold("a quote that is not closed", PIECE(it, "'1") == 0 && is_more(&it) && are_unused(it.keys, 0));
+    it.reader[6] = 0;
+    hold("a quote that is not closed, phase 0", is_more(&it) && are_unused(it.keys, 0));
+    hold("by the finish", mz_finish(it.reader) == 0 && gives(&it, MZ_EXPECTED_QUOTE, 4, '\'', 0, 0) &&
+                          it.keys.hashes[0] == HASH_A &&
+                              is_reader(&it, MZ_DONE, 0, 1, MZ_END, 4, 1, 0, 0, 0) && are_unused(it.keys, 1));
+    /* a position past what is held, and at its end */
+    it = lent_pieces(16, 2, 9);
+    hold("opened past the end", PIECE(it, "a=''") == 0 && is_reader(&it, MZ_NEXT, 9, 0, 0, 4, 0, MZ_BEGIN, 0, 0) &&
+                                is_more(&it) &&
+                                    mz_finish(it.reader) == 0 && TAKE(it, out, MZ_ANSWER) == 0 &&
+                                    is_reader(&it, MZ_NEXT, 9, 0, MZ_END, 4, 1, MZ_BEGIN, 0, 0));
+    it = lent_pieces(16, 2, 4);
+    hold("opened at the end", PIECE(it, "a=''") == 0 && is_more(&it) && mz_finish(it.reader) == 0 &&
+                              TAKE(it, out, MZ_ANSWER) == 0 &&
+                                  it.reader[0] == MZ_DONE && it.reader[1] == 0 && it.reader[3] == MZ_END);
+    it = lent_pieces(16, 2, 6);
+    hold("opened where bytes come to be", PIECE(it, "a='' ") == 0 && is_phase(&it, MZ_BEGIN, 0, 0) && PIECE(it, "xb='1'") == 0 &&
+                                              gives(&it, MZ_SINGLE_Q, 6, 7, 9, 10));
+    it = lent_pieces(1, 2, SIZE_MAX);
+    hold("opened far behind", PIECE(it, "a") == 0 && is_more(&it) && is_phase(&it, MZ_BEGIN, 0, 0));
+    /* where reading has ended it is more, and the end after the finish */
+    it = lent_pieces(4, 1, 0);
+    it.reader[0] = MZ_DONE;
+    it.reader[1] = 33;
+    hold("done", PIECE(it, "a=''") == 0 && is_reader(&it, MZ_DONE, 33, 0, 0, 4, 0, MZ_BEGIN, 0, 0) && is_more(&it) &&
+                     mz_finish(it.reader) == 0 && TAKE(it, out, MZ_ANSWER) == 0 &&
+                     is_reader(&it, MZ_DONE, 33, 0, MZ_END, 4, 1, MZ_BEGIN, 0, 0));
+    /* no room for an answer: nothing is written, be it a bad reader */
+    it = lent_pieces(5, 1, 0);
+    hold("an answer", PIECE(it, "a='1'") == 0);
+    for (size_t bad = 0; bad < 2; bad++) {
+        it.reader[0] = bad == 0 ? MZ_NEXT : 9;
+        it.reader[3] = 55;
+        before = COPY(it);
+        out = numbers(3 * MZ_ANSWER);
+        hold("no room for an answer", TAKE(it, out, MZ_ANSWER - 1) == 0 && is_same(&it, &before) && TAKE(it, NULL, 0) == 0 &&
+                                          is_same(&it, &before) && are_untouched(out, MZ_ANSWER));
+    }
+    it.reader[0] = MZ_NEXT;
+    /* tables that are too short, of which more comes before */
+    it = lent_pieces(20, 1, 0);
+    hold("a key that has a place", PIECE(it, "a='' b='") == 0 && TAKE(it, out, 3 * MZ_ANSWER) == 1 && it.reader[3] == MZ_END &&
+                                       is_reader(&it, MZ_NEXT, 4, 1, MZ_END, 8, 0, MZ_BEGIN, 0, 0));
+    hold("more comes before MZ_MORE_KEYS", is_more(&it) && PIECE(it, "x") == 0 && is_more(&it));
+    before = COPY(it);
+    hold("MZ_MORE_KEYS: at the finish", mz_finish(before.reader) == 0 && TAKE(before, out, MZ_ANSWER) == 0 &&
+                                            is_reader(&before, MZ_NEXT, 4, 1, MZ_MORE_KEYS, 9, 1, MZ_IN_SINGLE, 5, 6));
+    hold("MZ_MORE_KEYS", PIECE(it, "'") == 0 && is_phase(&it, MZ_DUE, 0, 0));
+    before = COPY(it);
+    hold("MZ_MORE_KEYS: nothing else", TAKE(it, out, 3 * MZ_ANSWER) == 0 && is_copy(&it, &before, MZ_MORE_KEYS));
+    it = copy_of(&it, 20, 2);
+    hold("with longer tables", gives(&it, MZ_SINGLE_Q, 5, 6, 8, 9) && it.keys.hashes[1] == HASH_B && it.keys.starts[1] == 5);
+    hold("a duplicate needs no place", PIECE(it, " a=") == 0 && gives(&it, MZ_DUPLICATED, 11, 0, 0, 0));
+    it = lent_pieces(20, 0, 0);
+    it.checks = false;
+    hold("checks off, and no place for a key", PIECE(it, "a='' a='' ") == 0 && TAKE(it, out, 3 * MZ_ANSWER) == 2 &&
+                                               it.reader[2] == 0 &&
+                                                   is_answer(out + MZ_ANSWER, MZ_SINGLE_Q, 5, 6, 8, 8));
+    /* lengths that are wrong: nothing is written */
+    for (size_t k = 0; k < 5; k++) {
+        it = lent_pieces(k == 0 ? MZ_HOLD + 1 : 5, 2, 0);
+        if (k > 0 && k < 4) {
+            it.keys = lent_keys(k == 1 ? MZ_KEYS + 1 : MZ_KEYS, k == 2 ? MZ_KEYS + 1 : MZ_KEYS, k == 3 ? MZ_KEYS + 1 : MZ_KEYS, 0, 0);
+        }
+        memcpy(it.text, "a='1'", 5);
+        it.reader[4] = 5;
+        it.reader[3] = 55;
+        out = numbers(MZ_ANSWER);
+        if (k == 4) {
+            hold("right lengths", TAKE(it, out, MZ_ANSWER) == 1);
+            continue;
+        }
+        hold("MZ_NONE of a reader", TAKE(it, out, MZ_ANSWER) == MZ_NONE && TAKE(it, NULL, 0) == MZ_NONE &&
+                                    are_untouched(out, MZ_ANSWER) &&
+                                        is_reader(&it, MZ_NEXT, 0, 0, 55, 5, 0, 0, 0, 0) && are_unused(it.keys, 0));
+    }
+    /* the shortest table counts */
+    for (size_t table = 0; table < 3; table++) {
+        it = lent_pieces(20, 2, 0);
+        it.keys = lent_keys(table == 0 ? 1 : 3, table == 1 ? 1 : 4, table == 2 ? 1 : 5, 0, 0);
+        hold("the shortest table of a reader", PIECE(it, "a='' b='' ") == 0 && TAKE(it, out, MZ_ANSWER) == 1 &&
+                                               TAKE(it, out, MZ_ANSWER) == 0 &&
+                                                   it.reader[3] == MZ_MORE_KEYS && it.reader[2] == 1);
+    }
+}
+
+/* All keys that there can be: one too many is there with its `=`, a bare one in HTML mode with the byte behind it, and is
+ * the last. */
+static void full_keys(void) {
+    const char *tag = many(MZ_KEYS - 1);
+    size_t len = 7 * (MZ_KEYS - 1), room = (MZ_KEYS + 1) * MZ_ANSWER, *out = numbers(room);
+    for (size_t bare = 0; bare < 2; bare++) {
+        struct pieces it = lent_pieces(MZ_HOLD, MZ_KEYS, 0);
+        it.html = bare == 1;
+        hold("all keys but one", mz_piece(it.text, it.text_len, it.reader, copied(tag), len) == 0 &&
+                                 PIECE(it, " x='' new") == 0 &&
+                                     TAKE(it, out, room) == MZ_KEYS && it.reader[2] == MZ_KEYS && it.reader[3] == MZ_END);
+        hold("a key too many: not before it is whole", is_more(&it) && PIECE(it, " ") == 0 && is_more(&it));
+        hold("a key too many", PIECE(it, bare == 1 ? "b" : "=") == 0 && gives(&it, MZ_KEY_TABLE_FULL, len + 6, 0, 0, 0) &&
+                                   is_reader(&it, MZ_DONE, 0, MZ_KEYS, MZ_END, len + 11, 0, MZ_BEGIN, 0, 0));
+        hold("reading has ended", is_more(&it) && PIECE(it, "'' y='' ") == 0 && is_phase(&it, MZ_BEGIN, 0, 0) && is_more(&it) &&
+                                      mz_finish(it.reader) == 0 && TAKE(it, out, MZ_ANSWER) == 0 && it.reader[3] == MZ_END);
+    }
+}
+
+static void pieces(void) {
+    const char *tags[] = {"", "a", " a='1' b=\"2\"", "a=1 b='x' a=2 c", "a='1 b", "= a ==''", "a a a='' b"};
+    phases();
+    moments();
+    for (size_t k = 0; k < COUNT(tags) * 16; k++) {
+        as_the_whole(tags[k / 16], k / 4 % 4 * 3, k % 2 == 1, k / 2 % 2 == 1);
+    }
+    refused_pieces();
+    bad_readers();
+    lying_phases();
+    traps();
+    full_keys();
+}
+
 /* ---- Scopes ---- */
 
 /* Whether bounds are those of a text. */
@@ -490,7 +1074,8 @@ static void nil(struct mz_resolver *r) {
     hold("mz_has_nil: what is not in use", HAS_NIL(*r, before) == 1 && before.hashes[0] == it.hashes[0] &&
                                                before.hashes[2] == it.hashes[2] && are_unused(before, 3));
     before = lent_keys(6, 5, 2, MZ_NEXT, 1);
-    hold("mz_has_nil: a hash that has no place", HAS_NIL(*r, before) == MZ_LEND_MORE && is_at(before, MZ_NEXT, 1, 0, untouched()) &&
+    hold("mz_has_nil: a hash that has no place", HAS_NIL(*r, before) == MZ_LEND_MORE &&
+                                                 is_at(before, MZ_NEXT, 1, 0, untouched()) &&
                                                      are_unused(before, 0));
     for (size_t checks = 0; checks < 2; checks++) {
         before = opened(3, MZ_NEXT, 32);
@@ -500,7 +1085,8 @@ static void nil(struct mz_resolver *r) {
                  is_at(before, MZ_DONE, 0, 0, untouched()) && are_zeros(before));
     }
     before = opened(2, MZ_NEXT, 1);
-    hold("mz_has_nil: a key that has no place", HAS_NIL(*r, before) == MZ_LEND_MORE && is_at(before, MZ_NEXT, 1, 0, untouched()) &&
+    hold("mz_has_nil: a key that has no place", HAS_NIL(*r, before) == MZ_LEND_MORE &&
+                                                is_at(before, MZ_NEXT, 1, 0, untouched()) &&
                                                     are_unused(before, 0));
     for (size_t table = 0; table < 3; table++) {
         before = lent_keys(table == 0 ? MZ_KEYS + 1 : 4, table == 1 ? MZ_KEYS + 1 : 4, table == 2 ? MZ_KEYS + 1 : 4, MZ_NEXT, 1);
@@ -544,7 +1130,8 @@ static void refusals(void) {
         uint8_t *long_value = (uint8_t *)block(MZ_TEXT);
         size_t most = MZ_TEXT - MZ_FRESH_TEXT - 1;
         hold("MZ_TEXT_FULL", mz_add(MZ_PASS(*r), true, BYTES("p"), long_value, most + 1, d) == MZ_TEXT_FULL && is_told(d, 0, 0));
-        hold("all text that there can be", mz_add(MZ_PASS(*r), true, BYTES("p"), long_value, most, d) == 0 && r->head[0] == MZ_TEXT);
+        hold("all text that there can be", mz_add(MZ_PASS(*r), true, BYTES("p"), long_value, most, d) == 0 &&
+                                           r->head[0] == MZ_TEXT);
     }
 #undef ADD
 }
@@ -627,7 +1214,8 @@ static void wrong_lengths(void) {
     hold("exactly what is in use", mz_resolve(MZ_PASS(*other), BYTES("p:x"), true, d) == 1 && are(other->text, d, "u") &&
                                        mz_set_level(MZ_PASS(*other), 7) == 0);
     other = lent(MZ_FRESH_TEXT - 1, MZ_FRESH_RECORDS);
-    hold("MZ_FRESH_TEXT", mz_fresh(MZ_PASS(*other)) == MZ_LEND_MORE && other->text[0] == 0x5a && are_untouched(other->head, MZ_HEAD));
+    hold("MZ_FRESH_TEXT", mz_fresh(MZ_PASS(*other)) == MZ_LEND_MORE && other->text[0] == 0x5a &&
+                          are_untouched(other->head, MZ_HEAD));
     other = lent(MZ_FRESH_TEXT, MZ_FRESH_RECORDS - 1);
     hold("MZ_FRESH_RECORDS", mz_fresh(MZ_PASS(*other)) == MZ_LEND_MORE && other->text[0] == 0x5a);
     fresh(MZ_FRESH_TEXT, MZ_FRESH_RECORDS);
@@ -665,7 +1253,8 @@ static void short_memory(void) {
                                                         !memcmp(l, m, MZ_LISTED * sizeof(size_t)));
         }
     }
-    hold("mz_add: in memory that does", mz_set_level(MZ_PASS(*r), 0) == 0 && mz_add(MZ_PASS(*r), true, BYTES("z"), BYTES("z"), d) == 0);
+    hold("mz_add: in memory that does", mz_set_level(MZ_PASS(*r), 0) == 0 &&
+                                        mz_add(MZ_PASS(*r), true, BYTES("z"), BYTES("z"), d) == 0);
 }
 
 /* ---- Positions far behind ---- */
@@ -760,7 +1349,8 @@ static void empty_and_null(void) {
     hold("null: mz_binding", mz_binding(MZ_PASS(*r), 0, listed) == 0 && listed[4] == 0);
     it.state[0] = MZ_NEXT;
     it.state[1] = 0;
-    hold("null: mz_has_nil", mz_has_nil(MZ_PASS(*r), NONE, NONE, NONE, NONE, it.state, false, true) == 0 && it.state[0] == MZ_DONE);
+    hold("null: mz_has_nil", mz_has_nil(MZ_PASS(*r), NONE, NONE, NONE, NONE, it.state, false, true) == 0 &&
+                             it.state[0] == MZ_DONE);
 }
 
 int main(void) {
@@ -774,6 +1364,7 @@ int main(void) {
     hashes();
     shortest();
     more_keys();
+    pieces();
     refusals();
     scopes();
     wrong_lengths();

@@ -47,7 +47,8 @@ const fn position(error: &AttrError) -> usize {
         | AttrError::UnquotedValue(pos)
         | AttrError::ExpectedQuote(pos, _)
         | AttrError::Duplicated(pos, _)
-        | AttrError::KeyTableFull(pos) => *pos,
+        | AttrError::KeyTableFull(pos)
+        | AttrError::NoText(pos) => *pos,
         AttrError::BadState => 0,
     }
 }

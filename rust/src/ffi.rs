@@ -5,7 +5,7 @@
 //! mean is said where they are taken apart, in `events::attributes` and `name`.
 
 use crate::LentError;
-use crate::library::{self, KEYS};
+use crate::library::{self, HOLD, KEYS};
 use crate::memory::{Lent, Memory, View};
 use alloc::boxed::Box;
 use alloc::format;
@@ -37,6 +37,14 @@ type State = [usize; 4];
 /// Why it stopped, where that was for want of places for keys.
 const MORE_KEYS: usize = 2;
 
+/// The numbers of a tag that arrives in pieces: a state, how many bytes are held, whether the finish has come, what the next
+/// answer waits for, and the bounds of its key.
+type Reader = [usize; 9];
+const HELD: usize = 4;
+const FINISHED: usize = 5;
+const PHASE: usize = 6;
+const KEY: usize = 7;
+
 /// An answer about a tag: what it is, and up to four positions.
 pub type Answer = [usize; ANSWER];
 const ANSWER: usize = 5;
@@ -60,7 +68,7 @@ pub const NAMES: usize = 16;
 const NUMBER: usize = size_of::<usize>();
 
 /// What this crate takes for granted of the library, in the order in which `mz_layout` numbers it.
-const LAYOUT: [(&str, usize); 12] = [
+const LAYOUT: [(&str, usize); 14] = [
     ("key places of a table", KEYS),
     ("numbers of a state", size_of::<State>() / NUMBER),
     ("numbers of an answer", ANSWER),
@@ -76,6 +84,8 @@ const LAYOUT: [(&str, usize); 12] = [
     ("bytes of a number", NUMBER),
     ("alignment of a number", align_of::<usize>()),
     ("bytes of a hash", size_of::<u32>()),
+    ("numbers of a reader", size_of::<Reader>() / NUMBER),
+    ("bytes held of a tag in pieces", HOLD),
 ];
 
 /// Whether the layouts were compared, and agree.
@@ -192,41 +202,18 @@ impl Ahead {
     fn read_on(
         &mut self,
         places: Places,
-        tag: &[u8],
+        tag: &mut impl Tag,
         html: bool,
         checks: bool,
         most: usize,
     ) -> bool {
         agree();
-        let Places {
-            starts,
-            ends,
-            hashes,
-            out,
-        } = places;
-        let room = most.min(self.wanted(out)) - self.filled;
-        let out = &mut out[ANSWER * self.filled..][..ANSWER * room];
-        // SAFETY: each pointer but that of the state, which has all its numbers, is that of a slice of ours
-        // with the length after it; all are apart from each other and borrowed mutably, and the tag is only
-        // read. What is not written yet isn't read: of the keys the library looks at those before `state[2]`,
-        // which only it counts, and into `out` it writes alone.
-        let count = unsafe {
-            library::mz_read_batch(
-                tag.as_ptr(),
-                tag.len(),
-                starts.as_mut_ptr().cast(),
-                starts.len(),
-                ends.as_mut_ptr().cast(),
-                ends.len(),
-                hashes.as_mut_ptr().cast(),
-                hashes.len(),
-                self.state.as_mut_ptr(),
-                html,
-                checks,
-                out.as_mut_ptr().cast(),
-                out.len(),
-            )
+        let room = most.min(self.wanted(places.out)) - self.filled;
+        let places = Places {
+            out: &mut places.out[ANSWER * self.filled..][..ANSWER * room],
+            ..places
         };
+        let count = tag.read(&mut self.state, places, html, checks);
         // The number that says "a wrong length" is none that can come, since no table is too long.
         assert!(count <= room, "the library read {count} answers of {room}");
         self.filled += count;
@@ -281,6 +268,209 @@ impl Places<'_> {
     }
 }
 
+/// What answers are read from: a whole tag, or as much of it as is there.
+pub trait Tag {
+    /// Reads answers until there is no room for one more, none follows, or a key has no place; the state's last number
+    /// says which. How many they are.
+    fn read(&mut self, state: &mut State, places: Places, html: bool, checks: bool) -> usize;
+}
+
+// One call of the library that reads answers from bytes: its state, and the places for keys and answers.
+macro_rules! read {
+    ($function:ident, $bytes:expr, $state:expr, $places:ident, $html:ident, $checks:ident) => {{
+        let Places {
+            starts,
+            ends,
+            hashes,
+            out,
+        } = $places;
+        // SAFETY: each pointer but that of the state, which has all its numbers, is that of a slice of ours
+        // with the length after it; all are apart from each other and borrowed mutably, and the bytes are only
+        // read. What is not written yet isn't read: of the keys the library looks at those before `state[2]`,
+        // which only it counts, and into `out` it writes alone.
+        unsafe {
+            library::$function(
+                $bytes.as_ptr(),
+                $bytes.len(),
+                starts.as_mut_ptr().cast(),
+                starts.len(),
+                ends.as_mut_ptr().cast(),
+                ends.len(),
+                hashes.as_mut_ptr().cast(),
+                hashes.len(),
+                $state.as_mut_ptr(),
+                $html,
+                $checks,
+                out.as_mut_ptr().cast(),
+                out.len(),
+            )
+        }
+    }};
+}
+
+impl Tag for &[u8] {
+    #[inline]
+    fn read(&mut self, state: &mut State, places: Places, html: bool, checks: bool) -> usize {
+        read!(mz_read_batch, self, state, places, html, checks)
+    }
+}
+
+/// No place of a tag that is held.
+const NOWHERE: usize = usize::MAX;
+
+/// How much of a tag has come that arrives in pieces. The bytes are kept beside it, and so are the places for keys, with
+/// a state that is the reader's own.
+#[derive(Clone)]
+pub struct Arrival {
+    reader: Reader,
+    /// The start of a key of which it is known that it is no duplicate: nothing is there before its value is. No key starts
+    /// at [`NOWHERE`].
+    asked: usize,
+}
+
+impl Arrival {
+    /// Nothing has come yet, and reading begins at `pos`.
+    #[inline]
+    pub const fn opened(pos: usize) -> Self {
+        Arrival {
+            reader: [1, pos, 0, 0, 0, 0, 0, 0, 0],
+            asked: NOWHERE,
+        }
+    }
+
+    /// How many bytes are held.
+    #[inline]
+    pub const fn held(&self) -> usize {
+        self.reader[HELD]
+    }
+
+    #[inline]
+    pub const fn is_finished(&self) -> bool {
+        self.reader[FINISHED] != 0
+    }
+
+    /// One piece more: 0, or 31, 32, 98.
+    #[inline]
+    pub fn piece(&mut self, text: &mut [u8], piece: &[u8]) -> usize {
+        agree();
+        // SAFETY: each pointer is that of a live slice with the length after it, or of all numbers of a reader. Text and
+        // reader are borrowed mutably and apart from each other and from the piece, which is only read.
+        unsafe {
+            library::mz_piece(
+                text.as_mut_ptr(),
+                text.len(),
+                self.reader.as_mut_ptr(),
+                piece.as_ptr(),
+                piece.len(),
+            )
+        }
+    }
+
+    /// The finish: 0, or 32.
+    #[inline]
+    pub fn finish(&mut self) -> usize {
+        agree();
+        // SAFETY: the reader has all its numbers, and is borrowed mutably.
+        unsafe { library::mz_finish(self.reader.as_mut_ptr()) }
+    }
+
+    /// Whether an answer may be there after a piece. A call that asks hashes all recorded keys: where a piece leaves the
+    /// phase at 0 reading has ended or has not begun, at 2 to 5 the next key or its `=` is not there, and from 6 on all that
+    /// can be there before its value is that it is a duplicate, or one too many. In XML mode 9 is an answer.
+    #[inline]
+    pub fn is_worth_asking(&self, html: bool) -> bool {
+        match self.reader[PHASE] {
+            1 => true,
+            9 if !html => true,
+            6.. => self.asked != self.reader[KEY],
+            _ => false,
+        }
+    }
+
+    /// What is known of the next answer is forgotten: reading went back, or goes on by another rule.
+    pub const fn forget(&mut self) {
+        self.reader[PHASE] = 0;
+        self.asked = NOWHERE;
+    }
+
+    /// What is there, to be read.
+    #[inline]
+    pub const fn tag<'t>(&'t mut self, text: &'t [u8]) -> Arrived<'t> {
+        Arrived {
+            arrival: self,
+            text,
+        }
+    }
+}
+
+/// What is there of a tag.
+pub struct Arrived<'t> {
+    arrival: &'t mut Arrival,
+    text: &'t [u8],
+}
+
+impl Tag for Arrived<'_> {
+    #[inline]
+    fn read(&mut self, state: &mut State, places: Places, html: bool, checks: bool) -> usize {
+        let Arrival { reader, asked } = &mut *self.arrival;
+        reader[..HELD].copy_from_slice(state);
+        let count = read!(mz_take, self.text, reader, places, html, checks);
+        state.copy_from_slice(&reader[..HELD]);
+        *asked = match reader[PHASE] {
+            6.. if count == 0 => reader[KEY],
+            _ => NOWHERE,
+        };
+        count
+    }
+}
+
+/// The bytes that are held of a tag.
+pub trait Text {
+    fn bytes(&self) -> &[u8];
+
+    fn lend(&mut self) -> &mut [u8];
+
+    /// Has room for so many bytes, which are no more than can be held, if that can be done.
+    fn more(&mut self, wanted: usize) -> bool;
+}
+
+impl Text for Vec<u8> {
+    #[inline]
+    fn bytes(&self) -> &[u8] {
+        self
+    }
+
+    #[inline]
+    fn lend(&mut self) -> &mut [u8] {
+        self
+    }
+
+    /// Twice as much as there was, or as much as is wanted; 256 bytes at first.
+    #[cold]
+    fn more(&mut self, wanted: usize) -> bool {
+        let room = wanted.max(2 * self.len()).clamp(256, HOLD);
+        self.reserve_exact(room - self.len());
+        self.resize(room, 0);
+        true
+    }
+}
+
+impl Text for &mut [u8] {
+    #[inline]
+    fn bytes(&self) -> &[u8] {
+        self
+    }
+
+    #[inline]
+    fn lend(&mut self) -> &mut [u8] {
+        self
+    }
+
+    fn more(&mut self, _: usize) -> bool {
+        false
+    }
+}
+
 /// What reading a tag needs to go on from one answer to the next.
 pub trait Reads {
     fn ahead(&self) -> &Ahead;
@@ -298,7 +488,7 @@ pub trait Reads {
 
     /// Reads the next answers, and forgets those before; whether no more follow them.
     #[inline]
-    fn read(&mut self, tag: &[u8], html: bool, checks: bool) -> bool {
+    fn read(&mut self, tag: &mut impl Tag, html: bool, checks: bool) -> bool {
         let (ahead, places) = self.parts();
         let [_, _, recorded, _] = ahead.state;
         let long = places.hashed(recorded) / HASHED;
@@ -310,7 +500,7 @@ pub trait Reads {
 
     /// Reads on until there are so many answers, in longer places where a key has none.
     #[inline]
-    fn read_up_to(&mut self, tag: &[u8], html: bool, checks: bool, most: usize) {
+    fn read_up_to(&mut self, tag: &mut impl Tag, html: bool, checks: bool, most: usize) {
         loop {
             let (ahead, places) = self.parts();
             if !ahead.read_on(places, tag, html, checks, most) {
@@ -321,7 +511,7 @@ pub trait Reads {
     }
 
     /// Goes back to where the first `taken` of the answers read ahead were all that was read.
-    fn read_again(&mut self, tag: &[u8], html: bool, checks: bool, taken: usize) {
+    fn read_again(&mut self, tag: &mut impl Tag, html: bool, checks: bool, taken: usize) {
         // Keys are recorded behind those that already are, so the ones counted then still stand.
         let (ahead, _) = self.parts();
         ahead.state = ahead.before;

@@ -1,7 +1,7 @@
 //! The functions of the static library, as `include/mezzulidda.h` has them; what each does is said there.
 //!
 //! Rust declares them here and nowhere else: the crate, the comparisons and the benchmark all take this
-//! file. A slice is a pointer and a length, two parameters; `head`, `state` and `detail` are pointers alone. A
+//! file. A slice is a pointer and a length, two parameters; `head`, `state`, `reader` and `detail` are pointers alone. A
 //! truth value that comes back is taken as a byte, so that whatever a library answers is a value of the type.
 
 // whoever takes the file calls some of them
@@ -9,6 +9,9 @@
 
 /// How many keys of a tag can be recorded: elements of each key table, at most.
 pub const KEYS: usize = 1_024;
+
+/// How many bytes of a tag that arrives in pieces can be held.
+pub const HOLD: usize = 65_536;
 
 unsafe extern "C" {
     pub safe fn mz_layout(what: usize) -> usize;
@@ -36,6 +39,31 @@ unsafe extern "C" {
         hashes: *mut u32,
         hashes_len: usize,
         state: *mut usize,
+        html: bool,
+        checks: bool,
+        out: *mut usize,
+        out_len: usize,
+    ) -> usize;
+
+    pub fn mz_piece(
+        text: *mut u8,
+        text_len: usize,
+        reader: *mut usize,
+        piece: *const u8,
+        piece_len: usize,
+    ) -> usize;
+    pub fn mz_finish(reader: *mut usize) -> usize;
+    #[allow(clippy::too_many_arguments)]
+    pub fn mz_take(
+        text: *const u8,
+        text_len: usize,
+        starts: *mut usize,
+        starts_len: usize,
+        ends: *mut usize,
+        ends_len: usize,
+        hashes: *mut u32,
+        hashes_len: usize,
+        reader: *mut usize,
         html: bool,
         checks: bool,
         out: *mut usize,

@@ -1,9 +1,9 @@
-//! What allocates: a resolver with memory of its own, when it is made and when it grows, and a tag of more than
-//! 32 attributes. The allocator here counts. Beside that it is the text alone that quick-xml's types hold, that of
-//! an unknown prefix and of a refused declaration.
+//! What allocates: a resolver with memory of its own, when it is made and when it grows, a tag of more than
+//! 32 attributes, and the bytes of a tag that arrives in pieces. The allocator here counts. Beside that it is the
+//! text alone that quick-xml's types hold, that of an unknown prefix and of a refused declaration.
 
 use mezzulidda::events::BytesStart;
-use mezzulidda::events::attributes::{Attributes, Tables};
+use mezzulidda::events::attributes::{Attributes, Pieces, Tables};
 use mezzulidda::name::{Memory, NamespaceResolver, ResolveResult};
 use std::alloc::{GlobalAlloc, Layout, System};
 use std::cell::Cell;
@@ -13,18 +13,26 @@ struct Counting;
 thread_local! {
     // other threads of the test program have their own
     static COUNT: Cell<usize> = const { Cell::new(0) };
+    /// The largest of them.
+    static LARGEST: Cell<usize> = const { Cell::new(0) };
+}
+
+/// One allocation more, of so many bytes.
+fn count(size: usize) {
+    COUNT.set(COUNT.get() + 1);
+    LARGEST.set(LARGEST.get().max(size));
 }
 
 // SAFETY: the system's allocator does all the work; counting neither allocates nor touches its memory.
 unsafe impl GlobalAlloc for Counting {
     unsafe fn alloc(&self, layout: Layout) -> *mut u8 {
-        COUNT.set(COUNT.get() + 1);
+        count(layout.size());
         // SAFETY: handed on as it came.
         unsafe { System.alloc(layout) }
     }
 
     unsafe fn realloc(&self, place: *mut u8, layout: Layout, size: usize) -> *mut u8 {
-        COUNT.set(COUNT.get() + 1);
+        count(size);
         // SAFETY: handed on as it came.
         unsafe { System.realloc(place, layout, size) }
     }
@@ -105,6 +113,64 @@ fn many_attributes() {
         unchecked.with_checks(false);
         assert_eq!(allocations(|| read += unchecked.count()), 0);
     }
+}
+
+/// How often memory is allocated for a tag in pieces of this size, and how much at once.
+fn for_pieces(tag: &str, size: usize) -> [usize; 2] {
+    LARGEST.set(0);
+    let mut read = 0;
+    let count = allocations(|| {
+        let mut reader = Pieces::new(0);
+        for piece in tag.as_bytes().chunks(size) {
+            reader.piece(piece).unwrap();
+            while reader.next().is_some() {
+                read += 1;
+            }
+        }
+        reader.finish().unwrap();
+        while reader.next().is_some() {
+            read += 1;
+        }
+    });
+    assert_eq!(read, Attributes::new(tag, 0).count());
+    [count, LARGEST.get()]
+}
+
+#[test]
+fn pieces() {
+    // the bytes of a short tag, and twice as many each time that these are full
+    for (length, wanted) in [
+        (1, [1, 256]),
+        (256, [1, 256]),
+        (257, [2, 512]),
+        (4_000, [5, 4_096]),
+        (40_000, [9, 65_536]),
+        (Pieces::MOST, [9, 65_536]),
+    ] {
+        let tag = &format!("a='{}", "x".repeat(length))[..length];
+        assert_eq!(for_pieces(tag, 1), wanted);
+        assert_eq!(for_pieces(tag, length), [1, length.max(256)]);
+    }
+    assert_eq!(for_pieces(TAG, 5), [1, 256]);
+    // places for more than 32 keys, as `Attributes` has them
+    let tag: String = (0..33).map(|n| format!(" k{n}=''")).collect();
+    let [count, largest] = for_pieces(&tag, 40);
+    assert!(count == 2 && largest < 3_000, "{count}, {largest}");
+    // lent, there is none
+    let (mut tables, mut text) = (Tables::new(), [0; 1_000]);
+    let mut read = 0;
+    let count = allocations(|| {
+        for _ in 0..100 {
+            let mut reader = Pieces::with_tables(0, &mut tables, &mut text);
+            for piece in tag.as_bytes().chunks(7) {
+                reader.piece(piece).unwrap();
+                while reader.next().is_some() {
+                    read += 1;
+                }
+            }
+        }
+    });
+    assert_eq!((read, count), (3_300, 0));
 }
 
 #[test]

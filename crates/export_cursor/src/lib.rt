@@ -25,7 +25,7 @@ pub fn place_from(end: usize, kind: usize, position: usize) -> Place
 }
 
 // The kind of a place.
-fn kind_of(place: Place) -> usize
+pub fn kind_of(place: Place) -> usize
     ensures { λ r. ⌜ r ≡ kindOf place ⌝ }
 {
     match place {
@@ -37,7 +37,7 @@ fn kind_of(place: Place) -> usize
 }
 
 // Its position.
-fn position_of(place: Place) -> usize
+pub fn position_of(place: Place) -> usize
     ensures { λ r. ⌜ r ≡ positionOf place ⌝ }
 {
     match place {
@@ -49,7 +49,7 @@ fn position_of(place: Place) -> usize
 }
 
 // Whether two places are the same.
-fn same_place(p: Place, q: Place) -> bool
+pub fn same_place(p: Place, q: Place) -> bool
     ensures { λ r. ⌜ r ≡ samePlace p q ⌝ }
 {
     if kind_of(p) != kind_of(q) {

@@ -19,8 +19,8 @@ use scope_table::NamespaceResolver;
 use scope_table::NamespaceResult;
 
 // The numbers that a caller's memory is held against, as `layoutOf` of specs/Layout.antt lists them. The kit has no
-// `size_of`, so the last three are what x86-64 has.
-const LAYOUT: [usize; 12] = [
+// `size_of`, so the bytes of a number, its alignment and the bytes of a hash are what x86-64 has.
+const LAYOUT: [usize; 14] = [
     tag_keys::CAPACITY,
     4,
     5,
@@ -33,16 +33,19 @@ const LAYOUT: [usize; 12] = [
     8,
     8,
     4,
+    9,
+    tag_pieces::HOLD,
 ];
 
 // The library's own numbers, so that a caller can hold its memory against them: 0 key places of a table, 1 numbers of an
 // iterator's state, 2 of an answer; 3 bytes of text, 4 records, 5 numbers of a record, 6 of a head, 7 of a detail, 8 of a
-// listing's detail; 9 bytes of a number, 10 its alignment; 11 bytes of a hash. Any other is 0.
+// listing's detail; 9 bytes of a number, 10 its alignment; 11 bytes of a hash; 12 numbers of a reader in pieces, 13 bytes that it
+// holds. Any other is 0.
 #[no_mangle]
 pub extern "C" fn mz_layout(what: usize) -> usize
     ensures { λ r. ⌜ r ≡ layoutOf what ⌝ }
 {
-    if what < 12 {
+    if what < 14 {
         return LAYOUT[what];
     }
     0

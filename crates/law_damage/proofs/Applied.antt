@@ -20,10 +20,10 @@ use Rattle.tag_step.specs.declared.Step.{Step}
 use Rattle.tag_step.specs.Read.{span, isAt, isQuote, skipTo, skipOf, recoverOf, keyEq, keyTo, keyFrom, keyAt, quoted, closedOf, quotedTo, quotedOf, unquotedTo, otherOf, valueBy, valueFrom, valueAt}
 use Rattle.tag_step.specs.Next.{checkOf, keptBy, placeAt, bareBy, bareTo, bareOf, valuedBy, valuedTo, valuedOf, readKey, readAt, stepFrom, stepOf, placeGood, keysOf, stateGood, noKeys, badReading, leaves, nextOf, opened}
 use Rattle.tag_step.specs.Run.{isEnd, consUnless, runOf, answersOf}
-use Rattle.tag_step.specs.Look.{lookIn, lookFrom, lookValue, lookBy, lookKey, lookAt, lookStart, lookOf}
+use Rattle.tag_step.specs.Look.{lookIn, lookFrom, lookValue, lookBy, lookKey, lookAt, lookStart, lookOf, lookNext}
 use Rattle.tag_step.specs.Numbers.{numbersOf}
 use Rattle.law_damage.specs.Damage.{Marked, kept, struck, was, wholeValue, cuts, damaged, added, takenOut, moved, moveAnswer, becomes, IsRun, AllFit, Hurt}
-use Rattle.law_damage.specs.Stable.{Agree, Before, lookNext}
+use Rattle.law_damage.specs.Stable.{Agree, Before}
 use Rattle.law_damage.proofs.Theorem.{damage-moves, opened-none}
 use Rattle.law_damage.proofs.Stable.{next-stable, grown}
 

@@ -6,8 +6,8 @@ use mathlib.Core.List.{List}
 use lib.ListN.{length, getD, take}
 use Rattle.tag_keys.specs.Keys.{KeysIn}
 use Rattle.tag_step.specs.declared.IterState.{IterState}
-use Rattle.tag_step.specs.Next.{placeGood, keysOf, nextOf}
-use Rattle.tag_step.specs.Look.{lookOf}
+use Rattle.tag_step.specs.Next.{placeGood, nextOf}
+use Rattle.tag_step.specs.Look.{lookNext}
 
 -- two tags whose first m bytes are the same
 pub record Agree (s t : List ℕ) (m : ℕ) : Type 0 where
@@ -19,10 +19,6 @@ pub record Agree (s t : List ℕ) (m : ℕ) : Type 0 where
 pub record Before (s : List ℕ) (m : ℕ) (st : IterState) : Type 0 where
   pub keys : KeysIn (st .starts) (st .ends) (st .hashes) (st .count) (take m s)
   pub place : placeGood s (st .place) ≡ true
-
--- how far `next` looks
-abbrev pub lookNext : List ℕ → IterState → ℕ
-lookNext s st = lookOf s (st .html) (st .«check_duplicates») (keysOf st) (st .place)
 
 -- in both modes, with any recorded keys
 abbrev pub NextStable : Type 0

@@ -34,7 +34,6 @@ use Rattle.scope_table.proofs.NamespaceBinding.prefix as scope-table·Namespace
 use Rattle.scope_table.proofs.Form.number as scope-table·Form·number
 use Rattle.scope_table.proofs.record_at as scope-table·record-at
 use Rattle.scope_table.proofs.write_record as scope-table·write-record
-use Rattle.scope_table.proofs.put as scope-table·put
 use Rattle.scope_table.proofs.clear_bytes as scope-table·clear-bytes
 use Rattle.scope_table.proofs.clear_rows as scope-table·clear-rows
 use Rattle.scope_table.proofs.clear_rows_from as scope-table·clear-rows-from
@@ -117,9 +116,6 @@ module _ {M : Type 1} (𝓤 : URA M) (H : Heap 𝓤) (A : Atoms 𝓤) (mem : Mem
 
   pub scope-table-write-record : Settled 𝓤 scope-table·write-record.ended (scope-table·write-record.clauses 𝓤 H A mem run)
   scope-table-write-record κs a g y z = follows 𝓤 (λ p q. together y z refl (together (y .1) (z .1) (p ∙ sym q) refl))
-
-  pub scope-table-put : Settled 𝓤 scope-table·put.ended (scope-table·put.clauses 𝓤 H A mem run)
-  scope-table-put κs a g y z = follows 𝓤 (λ p q. together y z refl (together (y .1) (z .1) (p ∙ sym q) refl))
 
   pub scope-table-clear-bytes : Settled 𝓤 scope-table·clear-bytes.ended (scope-table·clear-bytes.clauses 𝓤 H A mem run)
   scope-table-clear-bytes κs a g y z = follows 𝓤 (λ p q. together y z refl (together (y .1) (z .1) (p ∙ sym q) refl))

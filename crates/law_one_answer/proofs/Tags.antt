@@ -43,6 +43,7 @@ use Rattle.scan.proofs.byte_near as scan·byte-near
 use Rattle.scan.proofs.inside as scan·inside
 use Rattle.scan.proofs.same as scan·same
 use Rattle.scan.proofs.same_start as scan·same-start
+use Rattle.scan.proofs.put as scan·put
 use Rattle.name.proofs.PrefixDeclaration.number as name·PrefixDeclaration·number
 use Rattle.name.proofs.Verdict.number as name·Verdict·number
 use Rattle.name.proofs.colon_at as name·colon-at
@@ -67,6 +68,9 @@ use Rattle.tag_keys.proofs.holds as tag-keys·holds
 use Rattle.tag_keys.proofs.check_for_duplicates as tag-keys·check-for-duplicates
 use Rattle.tag_keys.proofs.check_unsifted as tag-keys·check-unsifted
 use Rattle.tag_keys.proofs.record_key as tag-keys·record-key
+use Rattle.tag_step.proofs.is_quote as tag-step·is-quote
+use Rattle.tag_step.proofs.recover as tag-step·recover
+use Rattle.tag_step.proofs.read_key as tag-step·read-key
 use Rattle.tag_step.proofs.good_in as tag-step·good-in
 use Rattle.tag_step.proofs.step_in as tag-step·step-in
 use Rattle.tag_step.proofs.step_unchecked as tag-step·step-unchecked
@@ -80,6 +84,8 @@ use Rattle.tag_parts.proofs.value_part as tag-parts·value-part
 use Rattle.tag_parts.proofs.as_bool as tag-parts·as-bool
 use Rattle.tag_batch.proofs.Why.number as tag-batch·Why·number
 use Rattle.tag_batch.proofs.numbers as tag-batch·numbers
+use Rattle.tag_batch.proofs.put as tag-batch·put
+use Rattle.tag_batch.proofs.after_seven as tag-batch·after-seven
 use Rattle.tag_batch.proofs.read_batch as tag-batch·read-batch
 use Rattle.tag_carried.proofs.Attributes.new as tag-carried·Attributes·new
 use Rattle.tag_carried.proofs.Attributes.html as tag-carried·Attributes·html
@@ -89,6 +95,9 @@ use Rattle.tag_carried.proofs.Attributes.key as tag-carried·Attributes·key
 use Rattle.tag_carried.proofs.Attributes.value as tag-carried·Attributes·value
 use Rattle.tag_carried.proofs.first as tag-carried·first
 use Rattle.export_cursor.proofs.place_from as export-cursor·place-from
+use Rattle.export_cursor.proofs.kind_of as export-cursor·kind-of
+use Rattle.export_cursor.proofs.position_of as export-cursor·position-of
+use Rattle.export_cursor.proofs.same_place as export-cursor·same-place
 use Rattle.export_cursor.proofs.settle as export-cursor·settle
 
 -- the outcome of a step on lent tables, read off what the contract states
@@ -149,6 +158,9 @@ module _ {M : Type 1} (𝓤 : URA M) (H : Heap 𝓤) (A : Atoms 𝓤) (mem : Mem
 
   pub scan-same-start : Settled 𝓤 scan·same-start.ended (scan·same-start.clauses 𝓤 H A mem run)
   scan-same-start κs a g y z = alone 𝓤 _ y z refl
+
+  pub scan-put : Settled 𝓤 scan·put.ended (scan·put.clauses 𝓤 H A mem run)
+  scan-put κs a g y z = follows 𝓤 (λ p q. together y z refl (together (y .1) (z .1) (p ∙ sym q) refl))
 
   pub name-PrefixDeclaration-number : Settled 𝓤 name·PrefixDeclaration·number.ended (name·PrefixDeclaration·number.clauses 𝓤 H A mem run)
   name-PrefixDeclaration-number κs a g y z = alone 𝓤 _ y z refl
@@ -222,6 +234,15 @@ module _ {M : Type 1} (𝓤 : URA M) (H : Heap 𝓤) (A : Atoms 𝓤) (mem : Mem
   pub tag-keys-record-key : Settled 𝓤 tag-keys·record-key.ended (tag-keys·record-key.clauses 𝓤 H A mem run)
   tag-keys-record-key κs a g y z = follows 𝓤 (λ p q. together y z (p .0 ∙ sym (q .0)) (together (y .1) (z .1) (p .1 ∙ picks-alike _ _ _ _ (p .0 ∙ sym (q .0)) ∙ sym (q .1)) (together (y .1 .1) (z .1 .1) (p .2 ∙ picks-alike _ _ _ _ (p .0 ∙ sym (q .0)) ∙ sym (q .2)) (together (y .1 .1 .1) (z .1 .1 .1) (p .3 ∙ picks-alike _ _ _ _ (p .0 ∙ sym (q .0)) ∙ sym (q .3)) (together (y .1 .1 .1 .1) (z .1 .1 .1 .1) (p .4 ∙ picks-alike _ _ _ _ (p .0 ∙ sym (q .0)) ∙ sym (q .4)) refl)))))
 
+  pub tag-step-is-quote : Settled 𝓤 tag-step·is-quote.ended (tag-step·is-quote.clauses 𝓤 H A mem run)
+  tag-step-is-quote κs a g y z = alone 𝓤 _ y z refl
+
+  pub tag-step-recover : Settled 𝓤 tag-step·recover.ended (tag-step·recover.clauses 𝓤 H A mem run)
+  tag-step-recover κs a g y z = alone 𝓤 _ y z refl
+
+  pub tag-step-read-key : Settled 𝓤 tag-step·read-key.ended (tag-step·read-key.clauses 𝓤 H A mem run)
+  tag-step-read-key κs a g y z = alone 𝓤 _ y z refl
+
   pub tag-step-good-in : Settled 𝓤 tag-step·good-in.ended (tag-step·good-in.clauses 𝓤 H A mem run)
   tag-step-good-in κs a g y z = alone 𝓤 _ y z refl
 
@@ -266,6 +287,12 @@ module _ {M : Type 1} (𝓤 : URA M) (H : Heap 𝓤) (A : Atoms 𝓤) (mem : Mem
   pub tag-batch-numbers : Settled 𝓤 tag-batch·numbers.ended (tag-batch·numbers.clauses 𝓤 H A mem run)
   tag-batch-numbers κs a g y z = follows 𝓤 (λ p q. together y z (ap fiveOfList (p ∙ sym q)) refl)
 
+  pub tag-batch-put : Settled 𝓤 tag-batch·put.ended (tag-batch·put.clauses 𝓤 H A mem run)
+  tag-batch-put κs a g y z = follows 𝓤 (λ p q. together y z refl (together (y .1) (z .1) (p ∙ sym q) refl))
+
+  pub tag-batch-after-seven : Settled 𝓤 tag-batch·after-seven.ended (tag-batch·after-seven.clauses 𝓤 H A mem run)
+  tag-batch-after-seven κs a g y z = alone 𝓤 _ y z refl
+
   pub tag-batch-read-batch : Settled 𝓤 tag-batch·read-batch.ended (tag-batch·read-batch.clauses 𝓤 H A mem run)
   tag-batch-read-batch κs a g y z = read-off 𝓤 (λ (x : Batched). (x .batch, (tt, (x .starts, (x .ends, (x .hashes, (tt, (x .out, tt))))))))
 
@@ -292,6 +319,15 @@ module _ {M : Type 1} (𝓤 : URA M) (H : Heap 𝓤) (A : Atoms 𝓤) (mem : Mem
 
   pub export-cursor-place-from : Settled 𝓤 export-cursor·place-from.ended (export-cursor·place-from.clauses 𝓤 H A mem run)
   export-cursor-place-from κs a g y z = alone 𝓤 _ y z refl
+
+  pub export-cursor-kind-of : Settled 𝓤 export-cursor·kind-of.ended (export-cursor·kind-of.clauses 𝓤 H A mem run)
+  export-cursor-kind-of κs a g y z = alone 𝓤 _ y z refl
+
+  pub export-cursor-position-of : Settled 𝓤 export-cursor·position-of.ended (export-cursor·position-of.clauses 𝓤 H A mem run)
+  export-cursor-position-of κs a g y z = alone 𝓤 _ y z refl
+
+  pub export-cursor-same-place : Settled 𝓤 export-cursor·same-place.ended (export-cursor·same-place.clauses 𝓤 H A mem run)
+  export-cursor-same-place κs a g y z = alone 𝓤 _ y z refl
 
   pub export-cursor-settle : Settled 𝓤 export-cursor·settle.ended (export-cursor·settle.clauses 𝓤 H A mem run)
   export-cursor-settle κs a g y z = follows 𝓤 (λ p q. together y z refl (together (y .1) (z .1) (p ∙ sym q) refl))

@@ -1,4 +1,3 @@
-pub mod Handed
 pub mod Own
 pub mod Parts
 pub mod Checked

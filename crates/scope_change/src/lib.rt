@@ -106,8 +106,8 @@ fn write_binding<'p>(
     let size = prefix_len + value_len;
     let end = used + size;
     let next = count + 1;
-    scope_table::put(text, used, prefix);
-    scope_table::put(text, middle, value);
+    scan::put(text, used, prefix);
+    scan::put(text, middle, value);
     let written = NamespaceBinding {
         start: used,
         prefix_len: prefix_len,

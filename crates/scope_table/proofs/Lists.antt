@@ -10,7 +10,7 @@ use native.Mathlib.Omega.{arith}
 use lib.Bits.{bitOr, or-add-and, and-le-l, and-le-r}
 use lib.Dec.{eqb}
 use lib.ListN.{length, take, drop, set, getD, replicate, length-append, length-drop, length-set, length-replicate, drop-of-length-le, take-append-drop}
-use lib.Seq.{paste, paste-suc, drop-cons, length-take-le, drop-drop, take-suc-set}
+use lib.Seq.{drop-cons, length-take-le, drop-drop, take-suc-set}
 use borrow.Author.Tests.{eq-eqb, ne-eqb, eqb-true, eqb-false}
 use Rattle.scope_table.specs.Lists.{allBelow, allZero, cut}
 
@@ -137,9 +137,3 @@ cut-next t i h =
 pub cut-length : (t : List ℕ) (n : ℕ) → n ≤ length t → length (cut t n) ≡ length t
 unfolding cut
 cut-length t n h = simp (length-append, length-take-le n t h, length-replicate) (omega arith)
-
--- A write over a list.
-
--- one byte more is pasted
-pub paste-more : (d : List ℕ) (at : ℕ) (s : List ℕ) (i : ℕ) → at + i < length d → i < length s → set (paste d at s i) (at + i) (getD s i 0) ≡ paste d at s (i + 1)
-paste-more d at s i h k = rw (add-one i) (paste-suc d at s i 0 h k)

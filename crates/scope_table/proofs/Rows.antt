@@ -11,12 +11,12 @@ use native.Mathlib.Omega.{arith}
 use lib.ListN.{length, take, drop, set, getD, length-append, List·getD-append}
 use lib.Seq.{paste, paste-zero, length-take-le, getD-append-add, getD-take, take-add, drop-cons}
 use Rattle.scan.specs.Lists.{over}
-use Rattle.scan.proofs.Lists.{paste-all, take-of-over, drop-over}
+use Rattle.scan.proofs.Lists.{paste-more, paste-all, take-of-over, drop-over}
 use Rattle.scope_table.specs.Lists.{allZero}
 use Rattle.scope_table.specs.Records.{ROW, rowAt, recordAt, rowOf}
 use Rattle.scope_table.specs.Table.{RECORDS, NUMBERS, textOf, levelBefore}
 use Rattle.scope_table.specs.declared.NamespaceBinding.{NamespaceBinding}
-use Rattle.scope_table.proofs.Lists.{paste-more, zeros-later}
+use Rattle.scope_table.proofs.Lists.{zeros-later}
 
 -- Where rows stand.
 

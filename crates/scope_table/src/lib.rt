@@ -229,18 +229,6 @@ pub fn write_record(records: &mut [usize], i: usize, written: NamespaceBinding)
     records[row + 3] = written.level;
 }
 
-// Writes s over the text from `at` on.
-pub fn put(text: &mut [u8], at: usize, s: &[u8])
-    requires { ⌜ at + length (now s) ≤ length (now text) ⌝ }
-    ensures { λ _. ⌜ now (text .exit) ≡ over (now (text .entry)) at (now (s .entry)) ⌝ }
-{
-    let mut i = 0;
-    while i < s.len() {
-        text[at + i] = s[i];
-        i += 1;
-    }
-}
-
 // Writes zeros into a text from `from` up to `to`, from where on there are only zeros.
 pub fn clear_bytes(t: &mut [u8], from: usize, to: usize)
     requires { ⌜ (to ≤ length (now t)) × (allZero (drop to (now t)) ≡ true) ⌝ }
@@ -587,7 +575,7 @@ fn write_built_in(text: &mut [u8], records: &mut [usize])
     ensures { λ _. ⌜ (now (text .exit) ≡ over (now (text .entry)) 0 builtIn) × (now (records .exit) ≡ over (now (records .entry)) 0 builtInRows) ⌝ }
 {
     let built_in = NamespaceResolver::BUILT_IN;
-    put(text, 0, &built_in);
+    scan::put(text, 0, &built_in);
     let xml = NamespaceBinding {
         start: 0,
         prefix_len: NamespaceResolver::XML_PREFIX_LEN,

@@ -76,7 +76,7 @@ module _ (s : List ℕ) (html checks : Bool) (starts ends hashes : List ℕ) (ls
   unfolding stepOf stepFrom recoverOf keysOf
   ended-step = refl
 
-  ended-ran : (n : ℕ) → ranOf (suc n) s ended ≡ ran [] ended AtEnd
+  pub ended-ran : (n : ℕ) → ranOf (suc n) s ended ≡ ran [] ended AtEnd
   unfolding ranOf isEnd
   ended-ran n =
       let x = reading (found End Done) (keysLent starts ends hashes 0) in

@@ -90,19 +90,20 @@ shown-next n out a x room =
     let text = over-more out (5 * n) (fiveOf a) (omega arith) (fivesOf (x .answers)) ∙ ap (λ (k : ℕ). over (over out (5 * n) (fiveOf a)) k (fivesOf (x .answers))) at in
     rw (many, text)
 
--- The loop's invariant. `whole` is the output at the start, `n` the answers written, `st` the state, `out` the output now.
-pub record Turn (s : List ℕ) (first : IterState) (whole : List ℕ) (n : ℕ) (st : IterState) (out : List ℕ) : Type 0 where
+-- The loop's invariant, over any run. `whole` is the output at the start, `n` the answers written, `st` the state, `out` the output
+-- now.
+pub record TurnOf (s : List ℕ) (run : ℕ → IterState → Ran) (first : IterState) (whole : List ℕ) (n : ℕ) (st : IterState) (out : List ℕ) : Type 0 where
   pub ripe : Ripe s st
   pub size : length out ≡ length whole
   pub fits : n ≤ answersRoom whole
-  pub same : readOf s first whole ≡ shownFrom n out (ranOf (answersRoom whole - n) s st)
+  pub same : batchShown whole (run (answersRoom whole) first) ≡ shownFrom n out (run (answersRoom whole - n) st)
 
-pub turn-first : (s : List ℕ) (st : IterState) (out : List ℕ) → Ripe s st → Turn s st out 0 st out
-unfolding readOf batchShown
-turn-first s st out r =
+pub turn-first : (s : List ℕ) (run : ℕ → IterState → Ran) (st : IterState) (out : List ℕ) → Ripe s st → TurnOf s run st out 0 st out
+unfolding batchShown
+turn-first s run st out r =
     let e : answersRoom out - 0 ≡ answersRoom out = omega arith in
     let z : 5 * 0 ≡ 0 = omega arith in
-    let m : 0 + length (ranOf (answersRoom out) s st .answers) ≡ length (ranOf (answersRoom out) s st .answers) = omega arith in
+    let m : 0 + length (run (answersRoom out) st .answers) ≡ length (run (answersRoom out) st .answers) = omega arith in
     record { ripe = r; size = refl; fits = omega arith; same = rw (e, z, m) }
 
 -- room for an answer, and none
@@ -118,7 +119,42 @@ room-none : (out : List ℕ) (n : ℕ) → length out < 5 * n + 5 → n ≤ answ
 unfolding answersRoom
 room-none out n h l = omega arith
 
--- a step
+module _ (s : List ℕ) (run : ℕ → IterState → Ran) (first : IterState) (whole : List ℕ) (n : ℕ) (st : IterState) (out : List ℕ) (t : TurnOf s run first whole n st out) where
+  -- there is room for one answer more
+  module _ (room : 5 * n + 5 ≤ length out) where
+    more : answersRoom whole - n ≡ suc (answersRoom whole - (n + 1))
+    more = omega (arith, room-more whole n (omega (arith, t .size)))
+
+    went : (x : Ran) → run (suc (answersRoom whole - (n + 1))) st ≡ x → batchShown whole (run (answersRoom whole) first) ≡ shownFrom n out x
+    went x e = t .same ∙ rw (more, e)
+
+    -- no answer: nothing is written
+    pub turn-stops : (left : IterState) (why : Why) → ((m : ℕ) → run (suc m) st ≡ ran [] left why) → batched (Read n (left .place) (left .count) why) (left .starts) (left .ends) (left .hashes) out ≡ batchShown whole (run (answersRoom whole) first)
+    turn-stops left why e = sym (went (ran [] left why) (e (answersRoom whole - (n + 1))) ∙ shown-none n out left why)
+
+    -- an answer: it is written, and the loop goes on
+    pub turn-next : (a : Answer) (after : IterState) → ((m : ℕ) → run (suc m) st ≡ ahead a (run m after)) → Ripe s after → TurnOf s run first whole (n + 1) after (over out (5 * n) (fiveOf a))
+    turn-next a after e ripe =
+        let five = five-length a in
+        record {
+          ripe = ripe;
+          size = over-length out (5 * n) (fiveOf a) (omega arith) ∙ t .size;
+          fits = omega (arith, room-more whole n (omega (arith, t .size)));
+          same = went (ahead a (run (answersRoom whole - (n + 1)) after)) (e (answersRoom whole - (n + 1))) ∙ shown-next n out a (run (answersRoom whole - (n + 1)) after) room;
+        }
+
+  -- the output is full
+  pub turn-full : length out < 5 * n + 5 → run zero st ≡ ran [] st OutFull → batched (Read n (st .place) (st .count) OutFull) (st .starts) (st .ends) (st .hashes) out ≡ batchShown whole (run (answersRoom whole) first)
+  turn-full h e =
+      let z = room-none whole n (omega (arith, t .size)) (t .fits) in
+      sym (t .same ∙ rw (z, e) (shown-none n out st OutFull))
+
+-- The run of a batch.
+
+abbrev pub runs : List ℕ → ℕ → IterState → Ran
+runs s n st = ranOf n s st
+
+-- a step of it
 module _ (s : List ℕ) (st : IterState) (m : ℕ) where
   ran-more : needsMore s st ≡ true → ranOf (suc m) s st ≡ ran [] st LendMore
   unfolding ranOf
@@ -133,89 +169,86 @@ module _ (s : List ℕ) (st : IterState) (m : ℕ) where
     unfolding ranOf
     ran-next h = rw (held, answer, h, leaves)
 
-module _ (s : List ℕ) (first : IterState) (whole : List ℕ) (n : ℕ) (st : IterState) (out : List ℕ) (t : Turn s first whole n st out) where
-  -- there is room for one answer more
-  module _ (room : 5 * n + 5 ≤ length out) where
-    more : answersRoom whole - n ≡ suc (answersRoom whole - (n + 1))
-    more = omega (arith, room-more whole n (omega (arith, t .size)))
+pub goes-full : (s : List ℕ) (first : IterState) (whole : List ℕ) (n : ℕ) (st : IterState) (out : List ℕ) → TurnOf s (runs s) first whole n st out → length out < 5 * n + 5
+    → batched (Read n (st .place) (st .count) OutFull) (st .starts) (st .ends) (st .hashes) out ≡ readOf s first whole
+unfolding readOf ranOf
+goes-full s first whole n st out t h = turn-full s (runs s) first whole n st out t h refl
 
-    went : (x : Ran) → ranOf (suc (answersRoom whole - (n + 1))) s st ≡ x → readOf s first whole ≡ shownFrom n out x
-    went x e = t .same ∙ rw (more, e)
-
-    -- a key has no place: nothing is written, and this state is left
-    pub turn-short : needsMore s st ≡ true → batched (Read n (st .place) (st .count) LendMore) (st .starts) (st .ends) (st .hashes) out ≡ readOf s first whole
-    turn-short h = sym (went (ran [] st LendMore) (ran-more s st (answersRoom whole - (n + 1)) h) ∙ shown-none n out st LendMore)
-
-    module _ (held : needsMore s st ≡ false) (a : Answer) (after : IterState) (answer : wholeNext s st .answer ≡ a) (leaves : steppedOf s st ≡ after) where
-      -- the end: nothing is written, and the next state is left
-      pub turn-ends : isEnd a ≡ true → batched (Read n (after .place) (after .count) AtEnd) (after .starts) (after .ends) (after .hashes) out ≡ readOf s first whole
-      turn-ends h = sym (went (ran [] after AtEnd) (ran-end s st (answersRoom whole - (n + 1)) held a after answer leaves h) ∙ shown-none n out after AtEnd)
-
-      -- an answer: it is written, and the loop goes on
-      pub turn-next : isEnd a ≡ false → Ripe s after → Turn s first whole (n + 1) after (over out (5 * n) (fiveOf a))
-      turn-next h ripe =
-          let five = five-length a in
-          record {
-            ripe = ripe;
-            size = over-length out (5 * n) (fiveOf a) (omega arith) ∙ t .size;
-            fits = omega (arith, room-more whole n (omega (arith, t .size)));
-            same = went (ahead a (ranOf (answersRoom whole - (n + 1)) s after)) (ran-next s st (answersRoom whole - (n + 1)) held a after answer leaves h) ∙ shown-next n out a (ranOf (answersRoom whole - (n + 1)) s after) room;
-          }
-
-  -- the output is full
-  pub turn-full : length out < 5 * n + 5 → batched (Read n (st .place) (st .count) OutFull) (st .starts) (st .ends) (st .hashes) out ≡ readOf s first whole
-  unfolding ranOf
-  turn-full h =
-      let z = room-none whole n (omega (arith, t .size)) (t .fits) in
-      sym (t .same ∙ rw z (shown-none n out st OutFull))
-
--- The same of what `step_in` has done.
-module _ (s : List ℕ) (first : IterState) (whole : List ℕ) (n : ℕ) (place : Place) (html checks : Bool) (starts ends hashes : List ℕ) (count : ℕ) (out : List ℕ)
-    (t : Turn s first whole n (lentState place html checks starts ends hashes count) out) (room : 5 * n + 5 ≤ length out)
+-- What `step_in` has done, from a state that is ripe.
+module _ (s : List ℕ) (place : Place) (html checks : Bool) (starts ends hashes : List ℕ) (count : ℕ) (p : Ripe s (lentState place html checks starts ends hashes count))
     (r : Stepped) (starts' ends' hashes' : List ℕ) (e : taken r starts' ends' hashes' count ≡ takenOn (keysLent starts ends hashes count) (stepOf s html checks (keysLent starts ends hashes count) place)) where
   abbrev st : IterState
   st = lentState place html checks starts ends hashes count
 
-  pub goes-short : r ≡ Stop.LendMore → batched (Read n place count LendMore) starts' ends' hashes' out ≡ readOf s first whole
-  goes-short m =
-      let p = t .ripe in
+  -- a key had no place, and the tables are as they were
+  pub short-needs : r ≡ Stop.LendMore → needsMore s st ≡ true
+  short-needs m = more-needs s place html checks starts ends hashes count (p .starts) (p .ends) (p .hashes) (p .good) r starts' ends' hashes' e m
+
+  pub short-left : r ≡ Stop.LendMore → lentState place html checks starts' ends' hashes' count ≡ st
+  short-left m =
       rw (more-hashes s place html checks starts ends hashes count (p .starts) (p .ends) (p .hashes) (p .good) r starts' ends' hashes' e m, more-starts s place html checks starts ends hashes count (p .starts) (p .ends) (p .hashes) (p .good) r starts' ends' hashes' e m, more-ends s place html checks starts ends hashes count (p .starts) (p .ends) (p .hashes) (p .good) r starts' ends' hashes' e m)
-      (turn-short s first whole n st out t room (more-needs s place html checks starts ends hashes count (p .starts) (p .ends) (p .hashes) (p .good) r starts' ends' hashes' e m))
 
   module _ (o : Advance) (m : r ≡ Stop.Made o) where
     abbrev after : IterState
     after = lentState (o .place) html checks starts' ends' hashes' (o .count)
 
-    held : needsMore s st ≡ false
-    held = made-held s place html checks starts ends hashes count (t .ripe .starts) (t .ripe .ends) (t .ripe .hashes) (t .ripe .good) r starts' ends' hashes' e o m
+    pub step-held : needsMore s st ≡ false
+    step-held = made-held s place html checks starts ends hashes count (p .starts) (p .ends) (p .hashes) (p .good) r starts' ends' hashes' e o m
 
-    answer : wholeNext s st .answer ≡ o .answer
-    answer = made-answer s place html checks starts ends hashes count (t .ripe .starts) (t .ripe .ends) (t .ripe .hashes) (t .ripe .good) r starts' ends' hashes' e o m
+    pub step-answer : wholeNext s st .answer ≡ o .answer
+    step-answer = made-answer s place html checks starts ends hashes count (p .starts) (p .ends) (p .hashes) (p .good) r starts' ends' hashes' e o m
 
-    leaves : steppedOf s st ≡ after
-    leaves = made-leaves s place html checks starts ends hashes count (t .ripe .starts) (t .ripe .ends) (t .ripe .hashes) (t .ripe .good) r starts' ends' hashes' e o m
+    pub step-leaves : steppedOf s st ≡ after
+    step-leaves = made-leaves s place html checks starts ends hashes count (p .starts) (p .ends) (p .hashes) (p .good) r starts' ends' hashes' e o m
 
-    pub after-starts : length starts' ≡ length starts
-    after-starts = made-starts s place html checks starts ends hashes count (t .ripe .starts) (t .ripe .ends) (t .ripe .hashes) (t .ripe .good) r starts' ends' hashes' e o m
+    -- what is left is ripe as before
+    pub step-ripe : Ripe s after
+    step-ripe =
+        record {
+          good = made-good s place html checks starts ends hashes count (p .starts) (p .ends) (p .hashes) (p .good) r starts' ends' hashes' e o m;
+          starts = omega (arith, made-starts s place html checks starts ends hashes count (p .starts) (p .ends) (p .hashes) (p .good) r starts' ends' hashes' e o m, p .starts);
+          ends = omega (arith, made-ends s place html checks starts ends hashes count (p .starts) (p .ends) (p .hashes) (p .good) r starts' ends' hashes' e o m, p .ends);
+          hashes = omega (arith, made-hashes s place html checks starts ends hashes count (p .starts) (p .ends) (p .hashes) (p .good) r starts' ends' hashes' e o m, p .hashes);
+        }
 
-    pub after-ends : length ends' ≡ length ends
-    after-ends = made-ends s place html checks starts ends hashes count (t .ripe .starts) (t .ripe .ends) (t .ripe .hashes) (t .ripe .good) r starts' ends' hashes' e o m
+-- a batch as what a state is left in
+abbrev pub stopped : ℕ → IterState → Why → List ℕ → Batched
+stopped n st why out = batched (Read n (st .place) (st .count) why) (st .starts) (st .ends) (st .hashes) out
 
-    pub after-hashes : length hashes' ≡ length hashes
-    after-hashes = made-hashes s place html checks starts ends hashes count (t .ripe .starts) (t .ripe .ends) (t .ripe .hashes) (t .ripe .good) r starts' ends' hashes' e o m
+-- The same of a batch.
+module _ (s : List ℕ) (first : IterState) (whole : List ℕ) (n : ℕ) (place : Place) (html checks : Bool) (starts ends hashes : List ℕ) (count : ℕ) (out : List ℕ)
+    (t : TurnOf s (runs s) first whole n (lentState place html checks starts ends hashes count) out) (room : 5 * n + 5 ≤ length out)
+    (r : Stepped) (starts' ends' hashes' : List ℕ) (e : taken r starts' ends' hashes' count ≡ takenOn (keysLent starts ends hashes count) (stepOf s html checks (keysLent starts ends hashes count) place)) where
+  abbrev here : IterState
+  here = lentState place html checks starts ends hashes count
+
+  pub goes-short : r ≡ Stop.LendMore → batched (Read n place count LendMore) starts' ends' hashes' out ≡ readOf s first whole
+  unfolding readOf
+  goes-short m =
+      ap (λ (x : IterState). stopped n x LendMore out) (short-left s place html checks starts ends hashes count (t .ripe) r starts' ends' hashes' e m)
+      ∙ turn-stops s (runs s) first whole n here out t room here LendMore (λ k. ran-more s here k (short-needs s place html checks starts ends hashes count (t .ripe) r starts' ends' hashes' e m))
+
+  module _ (o : Advance) (m : r ≡ Stop.Made o) where
+    abbrev left : IterState
+    left = lentState (o .place) html checks starts' ends' hashes' (o .count)
+
+    held : needsMore s here ≡ false
+    held = step-held s place html checks starts ends hashes count (t .ripe) r starts' ends' hashes' e o m
+
+    answer : wholeNext s here .answer ≡ o .answer
+    answer = step-answer s place html checks starts ends hashes count (t .ripe) r starts' ends' hashes' e o m
+
+    leaves : steppedOf s here ≡ left
+    leaves = step-leaves s place html checks starts ends hashes count (t .ripe) r starts' ends' hashes' e o m
 
     pub goes-end : isEnd (o .answer) ≡ true → batched (Read n (o .place) (o .count) AtEnd) starts' ends' hashes' out ≡ readOf s first whole
-    goes-end h = turn-ends s first whole n st out t room held (o .answer) after answer leaves h
+    unfolding readOf
+    goes-end h = turn-stops s (runs s) first whole n here out t room left AtEnd (λ k. ran-end s here k held (o .answer) left answer leaves h)
 
-    pub goes-on : isEnd (o .answer) ≡ false → Turn s first whole (n + 1) after (over out (5 * n) (fiveOf (o .answer)))
+    pub goes-on : isEnd (o .answer) ≡ false → TurnOf s (runs s) first whole (n + 1) left (over out (5 * n) (fiveOf (o .answer)))
     goes-on h =
-        turn-next s first whole n st out t room held (o .answer) after answer leaves h
-        (record {
-          good = made-good s place html checks starts ends hashes count (t .ripe .starts) (t .ripe .ends) (t .ripe .hashes) (t .ripe .good) r starts' ends' hashes' e o m;
-          starts = omega (arith, after-starts, t .ripe .starts);
-          ends = omega (arith, after-ends, t .ripe .ends);
-          hashes = omega (arith, after-hashes, t .ripe .hashes);
-        })
+        turn-next s (runs s) first whole n here out t room (o .answer) left (λ k. ran-next s here k held (o .answer) left answer leaves h)
+        (step-ripe s place html checks starts ends hashes count (t .ripe) r starts' ends' hashes' e o m)
 
 -- the sieve that a step leaves is that of the hashes that are kept then
 pub goes-sieve : (checks : Bool) (sieve hashes sieve' : List ℕ) (count : ℕ) (r : Stepped) → sieve' ≡ sieveLeft checks sieve hashes (keptIn r count) → (o : Advance) → r ≡ Stop.Made o → SieveOf checks sieve' hashes (o .count)

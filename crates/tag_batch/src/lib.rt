@@ -101,7 +101,7 @@ pub fn numbers(answer: Answer) -> Five
 }
 
 // Writes five numbers from `at` on.
-fn put(out: &mut [usize], at: usize, x: Five)
+pub fn put(out: &mut [usize], at: usize, x: Five)
     requires { ⌜ at + 5 ≤ length (now out) ⌝ }
     ensures { λ _. ⌜ now (out .exit) ≡ over (now (out .entry)) at (listed x) ⌝ }
 {
@@ -161,7 +161,7 @@ fn read_good<'a>(
 }
 
 // Refusal 7 is one answer, and the end follows it.
-fn after_seven(room: usize) -> Why
+pub fn after_seven(room: usize) -> Why
     ensures { λ r. ⌜ r ≡ pick (ltb room 10) OutFull AtEnd ⌝ }
 {
     if room < 10 {

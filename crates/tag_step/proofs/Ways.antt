@@ -24,15 +24,15 @@ use Rattle.tag_step.proofs.Whole.{KeyBy, KeyIn, key-in}
 
 -- the value whose first byte stands at v
 module _ (s : List ℕ) (html : Bool) (key : Span) (eq v : ℕ) (here : v ≡ firstFrom notSpace s (eq + 1)) where
-  look-none : length s ≤ v → v ≡ lookValue s html eq
+  pub look-none : length s ≤ v → v ≡ lookValue s html eq
   unfolding lookValue lookFrom
   look-none l = rw (sym here, le-ltb v (length s) l)
 
-  look-quoted : v < length s → isQuote (getD s v 0) ≡ true → firstFrom (isByte (getD s v 0)) s (v + 1) ≡ lookValue s html eq
+  pub look-quoted : v < length s → isQuote (getD s v 0) ≡ true → firstFrom (isByte (getD s v 0)) s (v + 1) ≡ lookValue s html eq
   unfolding lookValue lookFrom lookIn
   look-quoted l q = rw (sym here, lt-ltb v (length s) l, q)
 
-  look-other : v < length s → isQuote (getD s v 0) ≡ false → (h : Bool) → html ≡ h → pick h (firstFrom isSpace s v) v ≡ lookValue s html eq
+  pub look-other : v < length s → isQuote (getD s v 0) ≡ false → (h : Bool) → html ≡ h → pick h (firstFrom isSpace s v) v ≡ lookValue s html eq
   unfolding lookValue lookFrom lookIn
   look-other l q h m = rw (sym here, lt-ltb v (length s) l, q, m)
 

@@ -9,13 +9,14 @@ use Rattle.scan.specs.First.{firstFrom, pick}
 use Rattle.scan.specs.Bytes.{isSpace, notSpace, isByte}
 use Rattle.tag_keys.specs.declared.Checked.{Checked}
 use Rattle.tag_keys.specs.declared.Checked.the-variants.{Fresh, Same, Full}
+use Rattle.tag_step.specs.declared.IterState.{IterState}
 use Rattle.tag_step.specs.declared.Place.{Place}
 use Rattle.tag_step.specs.declared.Start.{Start}
 use Rattle.tag_step.specs.declared.Start.the-variants.{From, Ended}
 use Rattle.tag_step.specs.declared.KeyRead.{KeyRead}
 use Rattle.tag_step.specs.declared.KeyRead.the-variants.{NoKey, Bare, Valued}
 use Rattle.tag_step.specs.Read.{isQuote, recoverOf, keyAt}
-use Rattle.tag_step.specs.Next.{Keys, checkOf}
+use Rattle.tag_step.specs.Next.{Keys, checkOf, keysOf}
 
 -- a quoted value: its closing quote; an unquoted one: the whitespace after it; else the byte that is no quote
 unfoldable pub lookIn : List ℕ → Bool → ℕ → ℕ → ℕ
@@ -48,3 +49,7 @@ lookStart s html checks keys Ended = length s
 
 unfoldable pub lookOf : List ℕ → Bool → Bool → Keys → Place → ℕ
 lookOf s html checks keys place = lookStart s html checks keys (recoverOf s place)
+
+-- how far `next` looks
+abbrev pub lookNext : List ℕ → IterState → ℕ
+lookNext s st = lookOf s (st .html) (st .«check_duplicates») (keysOf st) (st .place)

@@ -131,7 +131,7 @@ pub enum Stepped {
 }
 
 // Whether a byte opens a quoted value.
-fn is_quote(b: u8) -> bool
+pub fn is_quote(b: u8) -> bool
     ensures { λ r. ⌜ r ≡ isQuote b ⌝ }
 {
     if b == b'"' {
@@ -162,7 +162,7 @@ fn skip_value(tag: &[u8], offset: usize) -> Start
 //     key  ="a value"  next
 //          |  ^
 //     offset  the answer
-fn recover(tag: &[u8], place: Place) -> Start
+pub fn recover(tag: &[u8], place: Place) -> Start
     ensures { λ r. ⌜ r ≡ recoverOf (now (tag .entry)) place ⌝ }
 {
     match place {
@@ -183,7 +183,7 @@ fn recover(tag: &[u8], place: Place) -> Start
 //        key  =  value           key  x            key
 //     |  |  | ^               |  |  | ^         |  |  ^
 //  from  s  e  at          from  s  e  at    from  s  e, at: the length
-fn read_key(tag: &[u8], from: usize) -> KeyRead
+pub fn read_key(tag: &[u8], from: usize) -> KeyRead
     ensures { λ r. ⌜ r ≡ keyAt (now (tag .entry)) from ⌝ }
 {
     let start = scan::content_from(tag, from);

@@ -1,6 +1,6 @@
 //! The attributes of a tag, one after another.
 
-use crate::ffi::{self, Ahead, Answer, Reads};
+use crate::ffi::{self, Ahead, Answer, Reads, Tag};
 use crate::memory::View;
 use crate::name::{Holder, NamespaceResolver, QName};
 use alloc::borrow::Cow;
@@ -10,7 +10,10 @@ use core::fmt::{self, Debug, Display, Formatter};
 use core::iter::FusedIterator;
 use core::ops::Range;
 
+mod pieces;
+
 pub use crate::ffi::{Inside, Tables};
+pub use pieces::{Held, PieceError, Pieces};
 
 /// What reading a tag is kept in: the iterator's own memory, or lent tables. No other type has it.
 pub trait Kept: Reads {}
@@ -231,6 +234,9 @@ pub enum AttrError {
     /// The state of reading is none that reading leaves. [`Attributes`] keeps its state to itself, so it
     /// doesn't come here; quick-xml doesn't have it.
     BadState,
+    /// The bytes of a key or of its value are no text, with the key at the position; reading goes on behind the value.
+    /// Comes of [`Pieces::next`] alone, and not of [`Pieces::next_bytes`]; quick-xml doesn't have it.
+    NoText(usize),
 }
 
 impl Display for AttrError {
@@ -267,6 +273,10 @@ impl Display for AttrError {
                 )
             }
             Self::BadState => write!(f, "the state of reading is none that reading leaves"),
+            Self::NoText(pos) => write!(
+                f,
+                "position {pos}: the bytes of an attribute key or its value are not UTF-8"
+            ),
         }
     }
 }
@@ -299,7 +309,7 @@ impl<T: Kept> IterState<T> {
     }
 
     /// Answers that were read ahead under the other setting and not taken are read anew.
-    fn with_checks(&mut self, tag: &[u8], val: bool) {
+    fn with_checks(&mut self, tag: &mut impl Tag, val: bool) {
         if val != self.check_duplicates && self.taken < self.kept.ahead().filled() {
             self.kept
                 .read_again(tag, self.html, self.check_duplicates, self.taken);
@@ -309,7 +319,7 @@ impl<T: Kept> IterState<T> {
     }
 
     #[inline]
-    fn next(&mut self, tag: &[u8]) -> Option<AttrResult<Range<usize>>> {
+    fn next(&mut self, tag: &mut impl Tag) -> Option<AttrResult<Range<usize>>> {
         if self.taken == self.kept.ahead().filled() && !self.read(tag) {
             return None;
         }
@@ -321,7 +331,7 @@ impl<T: Kept> IterState<T> {
     /// Reads on; whether there is an answer more. A call of its own, so that what takes answers is short and goes
     /// into the caller's loop.
     #[inline(never)]
-    fn read(&mut self, tag: &[u8]) -> bool {
+    fn read(&mut self, tag: &mut impl Tag) -> bool {
         if self.ended {
             return false;
         }
@@ -334,7 +344,7 @@ impl<T: Kept> IterState<T> {
     fn has_nil(&mut self, tag: &[u8], memory: View) -> bool {
         if self.taken < self.kept.ahead().filled() {
             self.kept
-                .read_again(tag, self.html, self.check_duplicates, self.taken);
+                .read_again(&mut { tag }, self.html, self.check_duplicates, self.taken);
         }
         let answer = memory.has_nil(tag, &mut self.kept, self.html, self.check_duplicates);
         (self.taken, self.ended) = (0, false);
@@ -456,7 +466,7 @@ impl<T: Kept> Attributes<'_, T> {
     /// Whether keys are recorded and a second one of the same name is refused. They are, unless told
     /// otherwise; a change holds for what has not been handed out yet.
     pub fn with_checks(&mut self, val: bool) -> &mut Self {
-        self.state.with_checks(self.buf.as_bytes(), val);
+        self.state.with_checks(&mut self.buf.as_bytes(), val);
         self
     }
 
@@ -478,7 +488,7 @@ impl<'a, T: Kept> Iterator for Attributes<'a, T> {
     // into the caller's loop, where rustc else makes a call of it: together a tenth of a tag of five attributes.
     #[inline(always)]
     fn next(&mut self) -> Option<Self::Item> {
-        let answer = self.state.next(self.buf.as_bytes())?;
+        let answer = self.state.next(&mut self.buf.as_bytes())?;
         Some(answer.map(|attr| {
             let (key, value): (Range<usize>, Option<Range<usize>>) = attr.into();
             Attribute {
@@ -554,7 +564,7 @@ impl<'a, 't> ByteAttributes<'a, &'t mut Tables> {
 impl<T: Kept> ByteAttributes<'_, T> {
     /// As [`Attributes::with_checks`].
     pub fn with_checks(&mut self, val: bool) -> &mut Self {
-        self.state.with_checks(self.buf, val);
+        self.state.with_checks(&mut { self.buf }, val);
         self
     }
 
@@ -572,7 +582,7 @@ impl<'a, T: Kept> Iterator for ByteAttributes<'a, T> {
     /// Where the static library is not one for [this crate](crate#panics).
     #[inline]
     fn next(&mut self) -> Option<Self::Item> {
-        let answer = self.state.next(self.buf)?;
+        let answer = self.state.next(&mut { self.buf })?;
         Some(answer.map(|attr| attr.map(|range| &self.buf[range])))
     }
 }

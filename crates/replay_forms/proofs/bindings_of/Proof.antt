@@ -64,7 +64,7 @@ use Rattle.scope_listing_carried.proofs.NamespaceBindingsOfLevelIter.next.Symbo
 use Rattle.scope_listing_carried.proofs.NamespaceBindingsOfLevelIter.next.Met as next-thm
 use Rattle.law_calls.proofs.Calls.{returned}
 use Rattle.tag_carried.proofs.Loan.{Rest, begins, ends}
-use Rattle.replay_forms.proofs.Handed.{handed}
+use Rattle.law_calls.proofs.Handed.{handed}
 use Rattle.replay_forms.proofs.Own.{heldVal, lends-struct, back, shares, unshares}
 use Rattle.replay_forms.proofs.bindings_of.Key.{name as #f}
 use Rattle.replay_forms.proofs.bindings_of as f

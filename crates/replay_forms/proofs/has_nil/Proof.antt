@@ -61,7 +61,7 @@ use Rattle.scope_nil_carried.proofs.has_nil as g
 use Rattle.scope_nil_carried.proofs.has_nil.Symbol as g-def
 use Rattle.scope_nil_carried.proofs.has_nil.Symbol.{name as #g}
 use Rattle.scope_nil_carried.proofs.has_nil.Met as g-thm
-use Rattle.replay_forms.proofs.Handed.{handed}
+use Rattle.law_calls.proofs.Handed.{handed}
 use Rattle.replay_forms.proofs.Own.{heldVal as scopeVal, heldOwn as scopeOwn, shares, unshares, iterator-back}
 use Rattle.replay_forms.proofs.has_nil.Key.{name as #f}
 use Rattle.replay_forms.proofs.has_nil as f

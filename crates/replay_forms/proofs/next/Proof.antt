@@ -58,7 +58,7 @@ use Rattle.tag_carried.proofs.Attributes.next as g
 use Rattle.tag_carried.proofs.Attributes.next.Symbol as g-def
 use Rattle.tag_carried.proofs.Attributes.next.Symbol.{name as #g}
 use Rattle.tag_carried.proofs.Attributes.next.Met as g-thm
-use Rattle.replay_forms.proofs.Handed.{handed}
+use Rattle.law_calls.proofs.Handed.{handed}
 use Rattle.replay_forms.proofs.Own.{iterator-back}
 use Rattle.replay_forms.proofs.next.Key.{name as #f}
 use Rattle.replay_forms.proofs.next as f

@@ -49,7 +49,7 @@ use Rattle.scope_in_place.proofs.pop as g
 use Rattle.scope_in_place.proofs.pop.Symbol as g-def
 use Rattle.scope_in_place.proofs.pop.Symbol.{name as #g}
 use Rattle.scope_in_place.proofs.pop.Met as g-thm
-use Rattle.replay_forms.proofs.Handed.{handed}
+use Rattle.law_calls.proofs.Handed.{handed}
 use Rattle.replay_forms.proofs.Own.{heldVal, heldOwn, lends, comes-back}
 use Rattle.replay_forms.proofs.Parts.{changedVal, changedOwn, told-is, told-apart, makes}
 use Rattle.replay_forms.proofs.pop.Key.{name as #f}

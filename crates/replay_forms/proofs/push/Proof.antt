@@ -54,7 +54,7 @@ use Rattle.scope_in_place.proofs.push as g
 use Rattle.scope_in_place.proofs.push.Symbol as g-def
 use Rattle.scope_in_place.proofs.push.Symbol.{name as #g}
 use Rattle.scope_in_place.proofs.push.Met as g-thm
-use Rattle.replay_forms.proofs.Handed.{handed}
+use Rattle.law_calls.proofs.Handed.{handed}
 use Rattle.replay_forms.proofs.Own.{heldVal, heldOwn, lends, comes-back}
 use Rattle.replay_forms.proofs.Parts.{changedVal, changedOwn, told-is, told-apart, makes}
 use Rattle.replay_forms.proofs.push.Key.{name as #f}

@@ -51,7 +51,7 @@ use Rattle.scope_in_place.proofs.set_level as g
 use Rattle.scope_in_place.proofs.set_level.Symbol as g-def
 use Rattle.scope_in_place.proofs.set_level.Symbol.{name as #g}
 use Rattle.scope_in_place.proofs.set_level.Met as g-thm
-use Rattle.replay_forms.proofs.Handed.{handed}
+use Rattle.law_calls.proofs.Handed.{handed}
 use Rattle.replay_forms.proofs.Own.{heldVal, heldOwn, lends, comes-back}
 use Rattle.replay_forms.proofs.Parts.{changedVal, changedOwn, told-is, told-apart, makes}
 use Rattle.replay_forms.proofs.set_level.Key.{name as #f}

@@ -44,7 +44,7 @@ use Rattle.scope_in_place.proofs.set_max_namespace_bindings as g
 use Rattle.scope_in_place.proofs.set_max_namespace_bindings.Symbol as g-def
 use Rattle.scope_in_place.proofs.set_max_namespace_bindings.Symbol.{name as #g}
 use Rattle.scope_in_place.proofs.set_max_namespace_bindings.Met as g-thm
-use Rattle.replay_forms.proofs.Handed.{handed}
+use Rattle.law_calls.proofs.Handed.{handed}
 use Rattle.replay_forms.proofs.Own.{heldVal, heldOwn, lends, comes-back}
 use Rattle.replay_forms.proofs.set_max_namespace_bindings.Key.{name as #f}
 use Rattle.replay_forms.proofs.set_max_namespace_bindings as f

@@ -8,8 +8,7 @@ use native.Mathlib.Omega.{arith}
 use borrow.Author.Needs.{needs}
 use lib.ListN.{length, take, length-set, set, getD}
 use lib.Seq.{paste, paste-zero, length-take-le, getD-take}
-use Rattle.scan.proofs.Lists.{paste-all}
-use Rattle.scope_table.proofs.Lists.{paste-more}
+use Rattle.scan.proofs.Lists.{paste-more, paste-all}
 use Rattle.scope_nil.proofs.copy_hashes.Statement.{statement}
 use Rattle.scope_nil.proofs.copy_hashes.Tie as tie
 

@@ -10,7 +10,7 @@ use Rattle.tag_keys.specs.Sieve.{SieveOf}
 use Rattle.tag_step.specs.Next.{keysLent, lentState, standsAt, stateGood}
 use Rattle.tag_step.proofs.Whole.{good-inside}
 use Rattle.tag_batch.specs.Batch.{listed}
-use Rattle.tag_batch.proofs.Turns.{Turn, turn-first, turn-full, goes-short, goes-end, goes-on, goes-sieve, code-end, code-other, room-fits}
+use Rattle.tag_batch.proofs.Turns.{TurnOf, runs, turn-first, goes-full, goes-short, goes-end, goes-on, goes-sieve, code-end, code-other, room-fits}
 use borrow.Author.Needs.{needs}
 use Rattle.tag_batch.proofs.read_good.Statement.{statement}
 use Rattle.tag_batch.proofs.read_good.Tie as tie
@@ -30,7 +30,7 @@ record Alike (s s₀ e e₀ h h₀ v v₀ : List ℕ) : Type 0 where
 abbrev Inv-loop : tie.InvT-loop
 Inv-loop tag starts₀ ends₀ hashes₀ sieve₀ out₀ html checks stand₀ recorded₀ n₀ end₀ starts ends hashes sieve out stand recorded n end =
     (end ≡ 5 * n)
-    × Turn tag (lentState stand₀ html checks starts₀ ends₀ hashes₀ recorded₀) out₀ n (lentState stand html checks starts ends hashes recorded) out
+    × TurnOf tag (runs tag) (lentState stand₀ html checks starts₀ ends₀ hashes₀ recorded₀) out₀ n (lentState stand html checks starts ends hashes recorded) out
     × SieveOf checks sieve hashes recorded
     × Alike starts starts₀ ends ends₀ hashes hashes₀ sieve sieve₀
 
@@ -40,7 +40,7 @@ abbrev μ-loop : tie.MeasureT-loop
 loop-holds : tie.Need-loop-holds Inv-loop μ-loop
 loop-holds c =
     let b = c .before .before .before .before .before .before in
-    (omega arith, turn-first (b .args .tag .now) (standsAt (b .args .at) (b .args .starts .now) (b .args .ends .now) (b .args .hashes .now)) (b .args .out .now) (b .pre .0), b .pre .1, record { starts = refl; ends = refl; hashes = refl; sieve = refl })
+    (omega arith, turn-first (b .args .tag .now) (runs (b .args .tag .now)) (standsAt (b .args .at) (b .args .starts .now) (b .args .ends .now) (b .args .hashes .now)) (b .args .out .now) (b .pre .0), b .pre .1, record { starts = refl; ends = refl; hashes = refl; sieve = refl })
 
 sub-loop : tie.Need-sub-loop Inv-loop μ-loop
 sub-loop c = omega (arith, room-fits _ _ (c .loop .inv .1 .fits), c .loop .inv .1 .size)
@@ -149,7 +149,7 @@ returns-3 : tie.Need-returns-3 Inv-loop μ-loop
 returns-3 c =
     let a = c .before .before .before .before .before .before .before .before .args in
     let l = c .before .loop in
-    turn-full (a .tag .now) (standsAt (a .at) (a .starts .now) (a .ends .now) (a .hashes .now)) (a .out .now) (l .n) (lentState (l .stand) (a .at .html) (a .at .checks) (l .starts) (l .ends) (l .hashes) (l .recorded)) (l .out) (l .inv .1) (omega (arith, l .inv .0))
+    goes-full (a .tag .now) (standsAt (a .at) (a .starts .now) (a .ends .now) (a .hashes .now)) (a .out .now) (l .n) (lentState (l .stand) (a .at .html) (a .at .checks) (l .starts) (l .ends) (l .hashes) (l .recorded)) (l .out) (l .inv .1) (omega (arith, l .inv .0))
 
 pub read-good-spec : {M : Type 1} → statement M
 read-good-spec =

@@ -1,4 +1,4 @@
--- `scope_table::put` meets its contract: after i turns the array is what it was with the first i bytes of s pasted in. The measure
+-- `scan::put` meets its contract: after i turns the array is what it was with the first i bytes of s pasted in. The measure
 -- is what is left of s.
 use Prim.Native.Nat.{_≤_, _-_}
 use mathlib.Core.Path.{_≡_, refl, _∙_}
@@ -6,10 +6,9 @@ use native.Mathlib.Omega.{arith}
 use borrow.Author.Needs.{needs}
 use lib.ListN.{length, length-set}
 use lib.Seq.{paste, paste-zero}
-use Rattle.scan.proofs.Lists.{paste-all}
-use Rattle.scope_table.proofs.Lists.{paste-more}
-use Rattle.scope_table.proofs.put.Statement.{statement}
-use Rattle.scope_table.proofs.put.Tie as tie
+use Rattle.scan.proofs.Lists.{paste-all, paste-more}
+use Rattle.scan.proofs.put.Statement.{statement}
+use Rattle.scan.proofs.put.Tie as tie
 
 abbrev Inv-loop : tie.InvT-loop
 Inv-loop text₀ at s i₀ text i = (i ≤ length s) × (length text ≡ length text₀) × (text ≡ paste text₀ at s i)

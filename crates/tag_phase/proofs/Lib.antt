@@ -1,0 +1,3 @@
+pub mod Paths
+pub mod Truth
+pub mod Examples
