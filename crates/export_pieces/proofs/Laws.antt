@@ -21,7 +21,7 @@ use Rattle.tag_takes.specs.declared.Took.the-variants.{Read, WrongLength}
 use Rattle.tag_takes.specs.Takes.{Some, Wrong, TakeEnd, takeEnd, lentReader, takeAllOf}
 use Rattle.tag_takes.specs.Takes as Takes
 use Rattle.export_cursor.specs.Cursor.{settledOf}
-use Rattle.export_pieces.specs.Pieces.{phaseKind, phaseStart, phaseEnd, phasePut, finishedIn, placeIn, cursorIn, PieceEnd, pieceEnd, readerFed, pieceShown, mzPieceOf, finishEnd, mzFinishOf, NONE, stoppedIn, numbersLeft, readerBy, TookEnd, tookEnd, takeShown, mzTakeOf}
+use Rattle.export_pieces.specs.Pieces.{phaseKind, phaseStart, phaseEnd, phasePut, finishedIn, placeIn, cursorIn, PieceEnd, pieceEnd, readerFed, pieceShown, mzPieceOf, finishEnd, mzFinishOf, NONE, stoppedIn, numbersLeft, readerBy, AnswersEnd, answersEnd, takeShown, mzTakeOf}
 
 -- A piece.
 
@@ -86,15 +86,15 @@ module _ (text starts ends hashes reader out : List ℕ) (html checks : Bool) (a
   unfolding mzTakeOf
   across = ap (takeShown reader (placeIn reader) (length out)) (is ∙ rw stands)
 
-  pub take-wrong : r ≡ WrongLength → tookEnd NONE starts' ends' hashes' reader out' ≡ mzTakeOf text starts ends hashes reader out html checks
+  pub take-wrong : r ≡ WrongLength → answersEnd NONE starts' ends' hashes' reader out' ≡ mzTakeOf text starts ends hashes reader out html checks
   unfolding readerBy
   take-wrong e = rw e at across
 
   module _ (n : ℕ) (left : Cursor) (why : Why) (e : r ≡ Read n left why) where
-    pub take-no-room : length out < 5 → tookEnd n starts' ends' hashes' reader out' ≡ mzTakeOf text starts ends hashes reader out html checks
+    pub take-no-room : length out < 5 → answersEnd n starts' ends' hashes' reader out' ≡ mzTakeOf text starts ends hashes reader out html checks
     unfolding readerBy
     take-no-room h = rw (e, lt-ltb (length out) 5 h) at across
 
-    pub take-leaves : 5 ≤ length out → (put : List ℕ) → put ≡ numbersLeft reader (at .place) (left .place) (left .count) (left .held) n why → tookEnd n starts' ends' hashes' put out' ≡ mzTakeOf text starts ends hashes reader out html checks
+    pub take-leaves : 5 ≤ length out → (put : List ℕ) → put ≡ numbersLeft reader (at .place) (left .place) (left .count) (left .held) n why → answersEnd n starts' ends' hashes' put out' ≡ mzTakeOf text starts ends hashes reader out html checks
     unfolding readerBy cursorIn
     take-leaves h put p = rw (p, stands) (rw (e, le-ltb (length out) 5 h) at across)

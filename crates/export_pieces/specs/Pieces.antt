@@ -135,7 +135,7 @@ mzFinishOf reader = pick (finishedIn reader) (finishEnd 32 reader) (finishEnd 0 
 
 -- Answers.
 
-pub record TookEnd : Type 0 where
+pub record AnswersEnd : Type 0 where
   pub answers : ℕ
   pub starts : List ℕ
   pub ends : List ℕ
@@ -143,8 +143,8 @@ pub record TookEnd : Type 0 where
   pub reader : List ℕ
   pub out : List ℕ
 
-abbrev pub tookEnd : ℕ → (starts ends hashes reader out : List ℕ) → TookEnd
-tookEnd n starts ends hashes reader out =
+abbrev pub answersEnd : ℕ → (starts ends hashes reader out : List ℕ) → AnswersEnd
+answersEnd n starts ends hashes reader out =
     record { answers = n; starts = starts; ends = ends; hashes = hashes; reader = reader; out = out }
 
 -- no number of answers: the largest number there is
@@ -169,10 +169,10 @@ unfoldable pub readerBy : List ℕ → Place → (room : ℕ) → Reader → Cou
 readerBy reader before room left (Some n why) = pick (ltb room 5) reader (numbersLeft reader before (left .place) (left .count) (left .held) n why)
 readerBy reader before room left Wrong = reader
 
-abbrev pub takeShown : List ℕ → Place → (room : ℕ) → TakeEnd → TookEnd
+abbrev pub takeShown : List ℕ → Place → (room : ℕ) → TakeEnd → AnswersEnd
 takeShown reader before room x =
-    tookEnd (countNumber (x .counted)) (x .reader .starts) (x .reader .ends) (x .reader .hashes) (readerBy reader before room (x .reader) (x .counted)) (x .out)
+    answersEnd (countNumber (x .counted)) (x .reader .starts) (x .reader .ends) (x .reader .hashes) (readerBy reader before room (x .reader) (x .counted)) (x .out)
 
-unfoldable pub mzTakeOf : (text starts ends hashes reader out : List ℕ) (html checks : Bool) → TookEnd
+unfoldable pub mzTakeOf : (text starts ends hashes reader out : List ℕ) (html checks : Bool) → AnswersEnd
 mzTakeOf text starts ends hashes reader out html checks =
     takeShown reader (placeIn reader) (length out) (takeAllOf (lentReader (cursorIn reader html checks) text starts ends hashes) out)

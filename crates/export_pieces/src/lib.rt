@@ -5,7 +5,7 @@
 // value, 3 skip from `=`), its position, how many keys are recorded, why it stopped, how many bytes are held, whether the tag is
 // finished (0 is no), the phase, and the bounds of the key that is under way.
 ghost use mathlib.Core.Path.{_≡_};
-ghost use Rattle.export_pieces.specs.Pieces.{phaseFrom, phaseKind, phaseStart, phaseEnd, phasePut, cursorIn, pieceEnd, mzPieceOf, finishEnd, mzFinishOf, tookEnd, numbersLeft, mzTakeOf};
+ghost use Rattle.export_pieces.specs.Pieces.{phaseFrom, phaseKind, phaseStart, phaseEnd, phasePut, cursorIn, pieceEnd, mzPieceOf, finishEnd, mzFinishOf, answersEnd, numbersLeft, mzTakeOf};
 ghost use Rattle.export_cursor.specs.Cursor.{settledOf};
 use tag_batch::Why;
 use tag_phase::Phase;
@@ -219,7 +219,7 @@ pub extern "C" fn mz_take<'a>(
     out: &mut [usize],
 ) -> usize
     ensures { λ r.
-        ⌜ tookEnd r (now (starts .exit)) (now (ends .exit)) (now (hashes .exit)) (now (reader .exit)) (now (out .exit))
+        ⌜ answersEnd r (now (starts .exit)) (now (ends .exit)) (now (hashes .exit)) (now (reader .exit)) (now (out .exit))
         ≡ mzTakeOf (now (text .entry)) (now (starts .entry)) (now (ends .entry)) (now (hashes .entry)) (now (reader .entry)) (now (out .entry)) html checks ⌝ }
 {
     let at = cursor_in(reader, html, checks);

@@ -21,7 +21,7 @@ use Rattle.tag_takes.specs.declared.Took.the-variants.{Read, WrongLength}
 use Rattle.tag_takes.specs.Takes.{Counted, Some, Wrong, TakeEnd, tookEnd}
 use Rattle.reader.specs.Numbers.{numberedFeeding, numberedTake}
 use Rattle.reader.proofs.Numbers.{feeding-apart, take-apart}
-use Rattle.export_pieces.specs.Pieces.{PieceEnd, FinishEnd, TookEnd}
+use Rattle.export_pieces.specs.Pieces.{PieceEnd, FinishEnd, AnswersEnd}
 use Rattle.law_one_answer.proofs.Ends.{follows, alone, read-off, by-numbers}
 use Rattle.tag_look.proofs.check_in as tag-look·check-in
 use Rattle.tag_look.proofs.look_in as tag-look·look-in
@@ -148,4 +148,4 @@ module _ {M : Type 1} (𝓤 : URA M) (H : Heap 𝓤) (A : Atoms 𝓤) (mem : Mem
   export-pieces-mz-finish κs a g y z = read-off 𝓤 (λ (x : FinishEnd). (x .code, (x .reader, tt)))
 
   pub export-pieces-mz-take : Settled 𝓤 export-pieces·mz-take.ended (export-pieces·mz-take.clauses 𝓤 H A mem run)
-  export-pieces-mz-take κs a g y z = read-off 𝓤 (λ (x : TookEnd). (x .answers, (tt, (x .starts, (x .ends, (x .hashes, (x .reader, (tt, (tt, (x .out, tt))))))))))
+  export-pieces-mz-take κs a g y z = read-off 𝓤 (λ (x : AnswersEnd). (x .answers, (tt, (x .starts, (x .ends, (x .hashes, (x .reader, (tt, (tt, (x .out, tt))))))))))
