@@ -9,11 +9,6 @@
 //! none. The prefixes are those that generators write, `ns0` to `ns119`: many of one length, different at their
 //! ends. The crate looks from the last binding to the first, so that the first one bound is its longest search.
 //!
-//! Names of 3 to 16 bytes with a prefix show what the search for two colons costs by a name's length. The library's answers
-//! have the second colon; quick-xml does not tell it, so that it is held against Rust's own search. A library of before, whose
-//! details have two numbers, can be timed with `./bench --scopes --library FILE` as well: it writes no second colon, and what
-//! it is lent for that is left alone.
-//!
 //! Usage: `scopes [--check] [--markdown]`. Status 1 where the two sides differ in an answer or, with
 //! `--check`, where a ratio or a time is above the one that is wanted.
 
@@ -22,8 +17,7 @@ mod library;
 mod turns;
 
 use library::{
-    KEYS, mz_binding, mz_fresh, mz_layout, mz_pop, mz_push, mz_read_batch, mz_resolve,
-    mz_resolve_all,
+    KEYS, mz_binding, mz_fresh, mz_pop, mz_push, mz_read_batch, mz_resolve, mz_resolve_all,
 };
 use oracle::events::BytesStart;
 use oracle::{NamespaceResolver, QName, ResolveResult, scopes};
@@ -34,8 +28,7 @@ use turns::{ROUNDS, fastest, none_missed, shown};
 
 const TEXT: usize = 65_536;
 const RECORDS: usize = 1_026;
-/// Numbers of a detail, of a record, of a head, of a state and of an answer.
-const DETAIL: usize = 3;
+/// Numbers of a record, of a head, of a state and of an answer.
 const ROW: usize = 4;
 const HEAD: usize = 4;
 const STATE: usize = 4;
@@ -43,11 +36,6 @@ const ANSWER: usize = 5;
 const NUMBER: usize = size_of::<usize>();
 /// Names that are looked up by one call.
 const NAMES: usize = 256;
-/// How many bytes a name has, its prefix of one letter and the colon among them.
-const LENGTHS: [usize; 6] = [3, 5, 8, 9, 12, 16];
-/// How many times the crate's time one of many names may take beyond the test. Half was wanted before the second colon was told:
-/// for that a name of 5.5 ns may take 7, and 0.5 * 7 / 5.5 is 0.64.
-const NAME_BEYOND_TEST: f64 = 0.64;
 /// The library's answer where more memory is wanted.
 const LEND_MORE: usize = 98;
 
@@ -118,7 +106,7 @@ impl Lent {
     }
 
     fn push_at(&mut self, tag: &str, at: usize) -> usize {
-        let mut detail = [0; DETAIL];
+        let mut detail = [0; 2];
         let to = detail.as_mut_ptr();
         call!(mz_push, self, tag.as_ptr(), tag.len(), at, to)
     }
@@ -141,15 +129,15 @@ impl Lent {
         call!(mz_pop, self)
     }
 
-    /// The kind, the bounds, and the second colon.
-    fn resolve_as(&mut self, name: &str, element: bool) -> [usize; 4] {
-        let mut detail = [0; DETAIL];
+    /// The kind, and the bounds.
+    fn resolve_as(&mut self, name: &str, element: bool) -> [usize; 3] {
+        let mut detail = [0; 2];
         let to = detail.as_mut_ptr();
         let kind = call!(mz_resolve, self, name.as_ptr(), name.len(), element, to);
-        [kind, detail[0], detail[1], detail[2]]
+        [kind, detail[0], detail[1]]
     }
 
-    fn resolve(&mut self, name: &str) -> [usize; 4] {
+    fn resolve(&mut self, name: &str) -> [usize; 3] {
         self.resolve_as(name, false)
     }
 
@@ -184,8 +172,6 @@ impl Lent {
             found.begins[..count].as_mut_ptr(),
             count,
             found.ends[..count].as_mut_ptr(),
-            count,
-            found.seconds[..count].as_mut_ptr(),
             count
         )
     }
@@ -196,7 +182,6 @@ struct Found {
     kinds: [usize; NAMES],
     begins: [usize; NAMES],
     ends: [usize; NAMES],
-    seconds: [usize; NAMES],
 }
 
 impl Found {
@@ -205,28 +190,8 @@ impl Found {
             kinds: [0; NAMES],
             begins: [0; NAMES],
             ends: [0; NAMES],
-            seconds: [0; NAMES],
         }
     }
-
-    /// What is told of one name, in the order that `Lent::resolve` has.
-    const fn get(&self, index: usize) -> [usize; 4] {
-        [
-            self.kinds[index],
-            self.begins[index],
-            self.ends[index],
-            self.seconds[index],
-        ]
-    }
-}
-
-/// The second colon that the library has to tell of a name. One of before tells none, and leaves a zero.
-fn second_colon(name: &str) -> usize {
-    if mz_layout(7) != DETAIL {
-        return 0;
-    }
-    let second = name.match_indices(':').nth(1);
-    second.map_or(name.len(), |(at, _)| at)
 }
 
 /// Names in one tag, and each by itself.
@@ -279,15 +244,11 @@ impl Pair {
         Pair::within(bindings, Lent::first()?)
     }
 
-    fn within(bindings: usize, ours: Lent) -> Result<Self, String> {
-        Pair::of(&declarations(bindings), bindings, ours)
-    }
-
-    /// Within a tag that has so many declarations.
-    fn of(tag: &str, bindings: usize, mut ours: Lent) -> Result<Self, String> {
+    fn within(bindings: usize, mut ours: Lent) -> Result<Self, String> {
+        let tag = declarations(bindings);
         let (mut theirs, mut full) = (NamespaceResolver::default(), Lent::full()?);
-        let pushed = matches!(scopes::push(&mut theirs, tag, 0), Some(Ok(())));
-        if !pushed || ours.push_growing(tag) != 0 || full.push(tag) != 0 {
+        let pushed = matches!(scopes::push(&mut theirs, &tag, 0), Some(Ok(())));
+        if !pushed || ours.push_growing(&tag) != 0 || full.push(&tag) != 0 {
             return Err(format!("{bindings} declarations are refused"));
         }
         Ok(Pair {
@@ -301,7 +262,7 @@ impl Pair {
     /// Whether both resolve a name alike.
     fn agree(&self, name: &str) -> Result<(), String> {
         let ours = &mut *self.ours.borrow_mut();
-        let [kind, begin, end, second] = ours.resolve(name);
+        let [kind, begin, end] = ours.resolve(name);
         let alike = match self.theirs.resolve(QName(name), false).0 {
             ResolveResult::Bound(uri) => {
                 kind == 1 && ours.text[begin..end] == *uri.into_inner().as_bytes()
@@ -309,8 +270,7 @@ impl Pair {
             ResolveResult::Unknown(prefix) => kind == 2 && name[begin..end] == prefix,
             ResolveResult::Unbound => kind == 0,
         };
-        let full = self.full.borrow_mut().resolve(name);
-        if alike && full == [kind, begin, end, second] && second == second_colon(name) {
+        if alike && self.full.borrow_mut().resolve(name) == [kind, begin, end] {
             return Ok(());
         }
         Err(format!("{name} over {} bindings", self.bindings))
@@ -327,7 +287,7 @@ impl Pair {
         for (index, name) in names.each.iter().enumerate() {
             self.agree(name)?;
             let due = self.ours.borrow_mut().resolve(name);
-            if answer != 0 || due != found.get(index) {
+            if answer != 0 || due != [found.kinds[index], found.begins[index], found.ends[index]] {
                 return Err(format!("{name} among {NAMES} names"));
             }
         }
@@ -487,30 +447,8 @@ fn resolve_many(pair: &Pair, whose: &str, each: Vec<String>) -> Result<Row, Stri
         by_crate: by_crate / NAMES as f64,
         ours: (all - none) / NAMES as f64,
         full: (full - full_none) / NAMES as f64,
-        most: (pair.bindings >= 20).then_some(Most::Times(NAME_BEYOND_TEST)),
+        most: (pair.bindings >= 20).then_some(Most::Times(0.5)),
     })
-}
-
-/// Names of each length, their prefix the first of two that are bound: one by one call, and one of many beyond the test.
-fn by_length() -> Result<Vec<Row>, String> {
-    let tag = " xmlns:p=\"http://example.com/p\" xmlns:q=\"http://example.com/q\"";
-    let pair = Pair::of(tag, 2, Lent::first()?)?;
-    let mut rows = Vec::new();
-    for length in LENGTHS {
-        let name = format!("p:{}", &"item-of-a-volume"[..length - 2]);
-        let one = resolve_one(&pair, "", &name)?;
-        rows.push(Row {
-            what: format!("resolve, a name of {length} bytes"),
-            ..one
-        });
-        let many = resolve_many(&pair, "", vec![name; NAMES])?;
-        rows.push(Row {
-            what: format!("a name of {NAMES}, beyond the test, {length} bytes"),
-            most: Some(Most::Times(NAME_BEYOND_TEST)),
-            ..many
-        });
-    }
-    Ok(rows)
 }
 
 /// Rule 20's test by itself, beside the crate's lookup over as many bindings.
@@ -716,7 +654,6 @@ fn measure_all() -> Result<Vec<Row>, String> {
             rows.push(resolve_many(pair, whose, each)?);
         }
     }
-    rows.extend(by_length()?);
     Ok(rows)
 }
 

@@ -15,24 +15,16 @@
 //! byte FE; with answers taken on the way, by `Pieces`, in memory of its own or in memory that is lent. They have to be
 //! those of the whole tag, each with the piece that holds its last byte.
 //!
-//! Of a name what quick-xml tells is compared with quick-xml; where it has its second colon, which quick-xml does not tell, is
-//! held against Rust's own search (colons.rs), in each of the calls that tell it, and these have to answer all else as the
-//! calls without it do.
-//!
 //! The calls are made once more in memory that is lent, little of it at first and more when that is full: they have
 //! to answer as in memory of the resolver's own.
 //!
 //! With `--cfg libfuzzer` this is the function that libFuzzer calls; else a program that draws its inputs,
 //! `fuzz SECONDS`. Either ends with status 1 at a difference, and shows the input.
 
-mod colons;
-
-use colons::second_colon;
-use mezzulidda::events::BytesStart;
 use mezzulidda::events::attributes::{
     Attr, AttrError, ByteAttributes, Held, Kept, PieceError, Pieces, Tables,
 };
-use mezzulidda::name::{Lent, NamespaceResolver, QName};
+use mezzulidda::name::{Lent, NamespaceResolver};
 use oracle::scopes;
 use oracle::steps::Reader;
 use std::fmt::Debug;
@@ -496,48 +488,6 @@ fn compare_pieces(input: &Input, wanted: &[[usize; 5]]) -> Compared {
     hold_pieces(own, input, wanted)
 }
 
-/// Where a name has its second colon, if it has one.
-fn second(name: &[u8]) -> Option<usize> {
-    Some(second_colon(name)).filter(|at| *at < name.len())
-}
-
-/// The second colon of each name, by itself and in every kind of lookup; what else a lookup tells is what it tells without.
-fn hold_second_colons(resolver: &NamespaceResolver, names: &str) -> Compared {
-    let keys: Vec<_> = names.split(' ').map(QName).collect();
-    let seconds: Vec<_> = keys.iter().map(|key| second(key.0.as_bytes())).collect();
-    for (name, due) in keys.iter().copied().zip(seconds.iter().copied()) {
-        let (element, attribute) = (
-            resolver.resolve_element_with_second_colon(name),
-            resolver.resolve_attribute_with_second_colon(name),
-        );
-        let told = [name.second_colon(), element.2, attribute.2];
-        let same = resolver.resolve_element(name) == (element.0, element.1)
-            && resolver.resolve_attribute(name) == (attribute.0, attribute.1);
-        if told != [due; 3] || !same {
-            return Err(format!("{name:?}: the second colon {told:?}, due {due:?}"));
-        }
-        // cut at any byte it need not be text
-        let bytes = &name.0.as_bytes()[..name.0.len() - usize::from(!name.0.is_ascii())];
-        let (found, local, told) = resolver.resolve_bytes_with_second_colon(bytes, true);
-        if told != second(bytes) || resolver.resolve_bytes(bytes, true) != (found, local) {
-            return Err(format!("{bytes:?}: the second colon {told:?}"));
-        }
-    }
-    // in one tag, behind a name of its own that is the first of them
-    let tag = BytesStart::from_content(names, keys[0].0.len());
-    let all = resolver.resolve_all(&tag, &keys);
-    let due = [seconds[0]].into_iter().chain(seconds.iter().copied());
-    for (plain, (told, due)) in all.clone().zip(all.with_second_colon().zip(due)) {
-        if told.2 != due || plain != (told.0, told.1) {
-            return Err(format!(
-                "{names:?}: the second colon {:?}, due {due:?}",
-                told.2
-            ));
-        }
-    }
-    Ok(())
-}
-
 /// The calls, on a fresh resolver of each.
 fn compare_calls(input: &Input) -> Compared {
     // the bindings are listed at the end of all calls, whatever they are
@@ -548,9 +498,6 @@ fn compare_calls(input: &Input) -> Compared {
         if let Call::Pieces(argument) = call {
             let input = Input::in_pieces(argument);
             compare_pieces(&input, &compare_bytes(&input)?)?;
-        }
-        if let Call::Names(names) = call {
-            hold_second_colons(&ours, names)?;
         }
         let answer = by_ours::call(&mut ours, call);
         let wanted = by_quick_xml::call(&mut theirs, call);

@@ -9,25 +9,18 @@
 //! and `0`, then drawn ones that are nearly one of these.
 //!
 //! The verdict on a declaration has no counterpart in the crate. It is held against `verdict` below,
-//! a transcription of document 01's sentence and of document 02's on the default namespace. Nor has the second
-//! colon of a name (document 02, request 2): of what splitting tells, the first colon is held against the crate, and
-//! the second against Rust's own search (colons.rs), on every name. To these come names of every length from 0 to 70
-//! with colons at every two places.
+//! a transcription of document 01's sentence and of document 02's on the default namespace.
 //!
 //! Usage: `names [--short]`. Status 0 and counts where all agrees, status 1 and the first difference where it doesn't.
 
 #[allow(dead_code)]
 #[path = "../oracle/src/cases.rs"]
 mod cases;
-mod colons;
 #[path = "../rust/src/library.rs"]
 mod library;
 
 use cases::Lcg;
-use colons::second_colon;
-use library::{
-    mz_as_bool, mz_declares, mz_is_xml, mz_is_xmlns, mz_second_colon, mz_split, mz_verdict,
-};
+use library::{mz_as_bool, mz_declares, mz_is_xml, mz_is_xmlns, mz_split, mz_verdict};
 use oracle::PrefixDeclaration;
 use oracle::scopes;
 use oracle::steps::as_bool;
@@ -38,13 +31,12 @@ const LETTERS: &[u8] = b"xmlns:";
 const VALUE_LETTERS: &[u8] = b"truefals01";
 const SEED: u64 = 42_003;
 
-/// How much is run: every name up to so many bytes, every value up to so many, so many drawn ones of each, and
-/// colons at every two places of names of less than so many bytes. The short part is for a tool that looks at each
-/// access to memory.
-type Extent = (u32, u32, usize, usize);
+/// How much is run: every name up to so many bytes, every value up to so many, and so many drawn ones of
+/// each. The short part is for a tool that looks at each access to memory.
+type Extent = (u32, u32, usize);
 
-const SHORT: Extent = (3, 2, 1_000, 19);
-const WHOLE: Extent = (6, 5, 200_000, 71);
+const SHORT: Extent = (3, 2, 1_000);
+const WHOLE: Extent = (6, 5, 200_000);
 
 const XML_URI: &[u8] = b"http://www.w3.org/XML/1998/namespace";
 const XMLNS_URI: &[u8] = b"http://www.w3.org/2000/xmlns/";
@@ -52,11 +44,6 @@ const XMLNS_URI: &[u8] = b"http://www.w3.org/2000/xmlns/";
 fn our_split(name: &[u8]) -> usize {
     // SAFETY: the pointer and the length are those of one slice, which the call only reads.
     unsafe { mz_split(name.as_ptr(), name.len()) }
-}
-
-fn our_second_colon(name: &[u8]) -> usize {
-    // SAFETY: as for `mz_split`.
-    unsafe { mz_second_colon(name.as_ptr(), name.len()) }
 }
 
 fn our_declares(name: &[u8]) -> usize {
@@ -105,7 +92,6 @@ fn verdict(prefix: Option<&[u8]>, value: &[u8]) -> bool {
 #[derive(Default)]
 struct Tally {
     names: usize,
-    seconds: usize,
     values: usize,
     truths: usize,
     declarations: usize,
@@ -153,9 +139,6 @@ fn compare(name: &[u8], tally: &mut Tally) -> Result<(), String> {
     let (prefix, _) = scopes::split(&asked);
     let colon = prefix.map_or(name.len(), str::len);
     tally.hold("split", name, our_split(name), colon)?;
-    let second = second_colon(name);
-    tally.seconds += usize::from(second < name.len());
-    tally.hold("second colon", name, our_second_colon(name), second)?;
 
     for part in [&name[..colon], name] {
         let text = &asked[..part.len()];
@@ -250,25 +233,7 @@ fn drawn_value(lcg: &mut Lcg) -> Vec<u8> {
     value
 }
 
-// Colons at every two places of names of each length, beside a letter and bytes that are a colon but for one bit.
-fn compare_two_colons(below: usize, tally: &mut Tally) -> Result<(), String> {
-    for len in 0..below {
-        for one in 0..len {
-            for two in one..len {
-                let mut name = vec![[b'a', b';', b'\xba'][two % 3]; len].into_boxed_slice();
-                name[one] = b':';
-                name[two] = b':';
-                compare(&name, tally)?;
-            }
-        }
-    }
-    Ok(())
-}
-
-fn all(
-    (every_up_to, values_up_to, drawn_ones, two_colons): Extent,
-    tally: &mut Tally,
-) -> Result<(), String> {
+fn all((every_up_to, values_up_to, drawn_ones): Extent, tally: &mut Tally) -> Result<(), String> {
     for len in 0..=values_up_to {
         for value in cases::every(VALUE_LETTERS, len) {
             compare_value(&value, tally)?;
@@ -286,10 +251,6 @@ fn all(
     eprintln!(
         "names: every one up to {every_up_to} bytes agrees, {} of them",
         tally.names
-    );
-    compare_two_colons(two_colons, tally)?;
-    eprintln!(
-        "names: those with colons at every two places agree, in names of less than {two_colons} bytes"
     );
     let mut lcg = Lcg::new(SEED);
     eprintln!("names: {drawn_ones} drawn ones follow");
@@ -314,14 +275,9 @@ fn main() -> ExitCode {
     match all(extent, &mut tally) {
         Ok(()) => {
             println!(
-                "names: {} names, {} of them declarations, {} with a second colon, held against Rust's own \
-                 search and not quick-xml, and {} values, {} of them yes or no, {} answers compared, no difference",
-                tally.names,
-                tally.declarations,
-                tally.seconds,
-                tally.values,
-                tally.truths,
-                tally.answers
+                "names: {} names, {} of them declarations, and {} values, {} of them yes or no, {} answers \
+                 compared, no difference",
+                tally.names, tally.declarations, tally.values, tally.truths, tally.answers
             );
             ExitCode::SUCCESS
         }

@@ -8,9 +8,7 @@
 //! is compared up to the first of them.
 //!
 //! Names whose prefix is unknown: what the crate makes its refusal 11 of is what the library answers 2 for,
-//! with the bounds of the same prefix. With each name that is answered, whatever the answer, stands its second colon
-//! (document 02, request 2). The crate does not tell that: the other numbers are held against the crate, and this one
-//! against Rust's own search (colons.rs). Searches for `nil`: the answer, the place and the recorded keys that
+//! with the bounds of the same prefix. Searches for `nil`: the answer, the place and the recorded keys that
 //! are left with their hashes, key places that are not in use, and the resolver, which is as it was. 7, 20 and, where
 //! a key has no place of all that there can be, 6 are decided here.
 //!
@@ -25,7 +23,7 @@
 #[allow(dead_code)]
 #[path = "../oracle/src/cases.rs"]
 mod cases;
-mod colons;
+
 #[path = "../oracle/src/declarations.rs"]
 mod declarations;
 #[path = "scopes/drawn.rs"]
@@ -44,7 +42,6 @@ mod parts;
 mod short;
 
 use cases::Lcg;
-use colons::second_colon;
 use declarations::{PREFIXES, Tags, VALUES, XML_URI, XMLNS_URI};
 use drawn::{FILLING, MIXED, NAMES, Shape, change, drawn_call};
 use due::{RECORDS, Shown, TEXT, Wanted, listing, resolved_wanted};
@@ -71,7 +68,6 @@ struct Tally {
     added: usize,
     resolved: usize,
     unknown: usize,
-    seconds: usize,
     listed: usize,
     searches: usize,
     yes: usize,
@@ -86,8 +82,7 @@ impl Counts for Tally {
     fn line(&self, what: &str) -> String {
         format!(
             "{what}: {} runs, {} calls compared ({} refused, {} by an added refusal), {} names \
-             resolved ({} of them refusal 11; {} with a second colon, held against Rust's own search and not quick-xml), \
-             {} bindings listed, {} searches for nil ({} of them a yes), \
+             resolved ({} of them refusal 11), {} bindings listed, {} searches for nil ({} of them a yes), \
              {} calls on memory of other lengths ({} of them 18 or 19, {} 20, {} 98, {} 99)",
             self.runs,
             self.calls,
@@ -95,7 +90,6 @@ impl Counts for Tally {
             self.added,
             self.resolved,
             self.unknown,
-            self.seconds,
             self.listed,
             self.searches,
             self.yes,
@@ -114,7 +108,6 @@ impl Counts for Tally {
         self.added += other.added;
         self.resolved += other.resolved;
         self.unknown += other.unknown;
-        self.seconds += other.seconds;
         self.listed += other.listed;
         self.searches += other.searches;
         self.yes += other.yes;
@@ -172,12 +165,6 @@ impl<'t> Pair<'t> {
         }
         lines.extend_from_slice(&self.calls[from..]);
         lines.join("\n  ")
-    }
-
-    /// One more name is resolved.
-    fn count_name(&mut self, name: &str) {
-        self.tally.resolved += 1;
-        self.tally.seconds += usize::from(second_colon(name.as_bytes()) < name.len());
     }
 
     /// One answer of the library, held against what is due.
@@ -247,7 +234,6 @@ impl<'t> Pair<'t> {
         let record = &records[self.lcg.below(records.len())];
         let prefix = &scopes::text(&self.theirs)[record.start..record.start + record.prefix_len];
         names.push(format!("{prefix}:a"));
-        names.push(format!("{prefix}:a-local-name:with-more:colons"));
         for name in &names {
             self.hold_name(name)?;
         }
@@ -275,8 +261,8 @@ impl<'t> Pair<'t> {
                 return Err(self.error(&format!("the crate resolves |{}| in two ways", cut(name))));
             }
             let wanted = resolved_wanted(&self.theirs, &resolved);
+            self.tally.resolved += 1;
             self.tally.unknown += usize::from(is_refused(resolved, name, &wanted)?);
-            self.count_name(name);
             self.ask(&Call::Resolve(name.to_string(), default), &wanted)?;
         }
         Ok(())
@@ -348,7 +334,7 @@ impl<'t> Pair<'t> {
             columns[1].push(wanted.detail[0]);
             columns[2].push(wanted.detail[1]);
         }
-        names.iter().for_each(|name| self.count_name(name));
+        self.tally.resolved += names.len();
         let wanted = Wanted::new(0, &columns.concat());
         self.ask(&Call::ResolveAll(names, elements), &wanted)
     }
@@ -358,7 +344,7 @@ impl<'t> Pair<'t> {
         for default in [true, false] {
             let resolved = scopes::resolve_prefix(&self.theirs, prefix, default);
             let wanted = resolved_wanted(&self.theirs, &resolved);
-            self.count_name(name);
+            self.tally.resolved += 1;
             self.ask(&Call::Resolve(name.to_string(), default), &wanted)?;
         }
         Ok(())
@@ -686,10 +672,7 @@ fn call_of_each_kind() -> Vec<Call> {
         Call::SetLevel(DEEPEST),
         Call::Resolve("p:a".to_string(), true),
         Call::Resolve("a".to_string(), false),
-        Call::Resolve("p:a:b".to_string(), false),
-        Call::Resolve("zz:a:b".to_string(), true),
         Call::ResolveAll(vec!["p:a".to_string(), "a".to_string()], 1),
-        Call::ResolveAll(vec!["zz:a:b".to_string(), "p:a:b".to_string()], 1),
         Call::Binding(0),
         Call::Binding(usize::MAX),
         Call::BindingOf(0, 0),
@@ -784,10 +767,10 @@ fn wrong_lengths(_: &Extent, tally: &mut Tally) -> Result<(), String> {
     names_of_other_lengths(&good, tally)
 }
 
-/// Six arrays of up to three elements each.
+/// Five arrays of up to three elements each.
 fn names_of_other_lengths(good: &Scope, tally: &mut Tally) -> Result<(), String> {
-    for number in 0..4usize.pow(6) {
-        let lens = [0, 1, 2, 3, 4, 5].map(|place| number / 4usize.pow(place) % 4);
+    for number in 0..4usize.pow(5) {
+        let lens = [0, 1, 2, 3, 4].map(|place| number / 4usize.pow(place) % 4);
         let equal = lens.iter().all(|len| *len == lens[0]);
         let due = if equal { 0 } else { WRONG_LENGTH };
         let mut scope = good.clone();

@@ -52,14 +52,8 @@ size_t mz_layout(size_t what);
 
 /* ---- Names ---- */
 
-/* The index of the first colon, or the length where there is none. What stands behind it is the local part. */
+/* The index of the first colon, or the length where there is none. */
 size_t mz_split(const uint8_t *name, size_t name_len);
-
-/* The index of the second colon, the first one of the local part, or the length where there is none. It is counted
- * from the start of the name: `a:b:c` 3, `::` 1, `a:b:c:d` 3; and `a:`, `a` and `:` have none. Namespaces in XML 1.0
- * allows a name one colon. One that has more is read all the same, as by quick-xml: `a:b:c` is the local part `b:c`
- * with the prefix `a`. */
-size_t mz_second_colon(const uint8_t *name, size_t name_len);
 
 /* What an attribute of this name declares: 0 nothing, 1 the default namespace, 2 a prefix, which is the
  * name from index 6 on. */
@@ -255,7 +249,7 @@ size_t mz_take(const uint8_t *text, size_t text_len,
 #define MZ_RECORDS 1026     /* bindings that it can hold, of which two are built in */
 #define MZ_RECORD 4         /* elements of `records` for each: start, prefix length, value length, level */
 #define MZ_HEAD 4           /* elements of `head`: text used, bindings, level, limit */
-#define MZ_DETAIL 3         /* elements of `detail`, but for the listings */
+#define MZ_DETAIL 2         /* elements of `detail`, but for the listings */
 #define MZ_LISTED 5         /* elements of `detail` in the listings */
 
 /*
@@ -290,9 +284,8 @@ struct mz_resolver {
 #define MZ_FRESH_TEXT 73
 #define MZ_FRESH_RECORDS (2 * MZ_RECORD)
 
-/* 0, MZ_LEND_MORE, MZ_WRONG_LENGTH, or a refusal. `detail` is set to its numbers, and to 0 where it has fewer: mz_add
- * and mz_push set the first two and leave the third alone, mz_resolve sets all three, and the listings also set the
- * place. Where more than one holds, MZ_WRONG_LENGTH comes first, and MZ_LEND_MORE last. */
+/* 0, MZ_LEND_MORE, MZ_WRONG_LENGTH, or a refusal. `detail` is set to its numbers, and to 0 where it has fewer; the
+ * listings also set the place. Where more than one holds, MZ_WRONG_LENGTH comes first, and MZ_LEND_MORE last. */
 #define MZ_INVALID_XML_PREFIX_BIND 12   /* bounds of the value */
 #define MZ_INVALID_XMLNS_PREFIX_BIND 13 /* bounds of the value */
 #define MZ_INVALID_PREFIX_FOR_XML 14    /* bounds of the prefix */
@@ -327,22 +320,20 @@ size_t mz_pop(MZ_RESOLVER(MZ_CHANGED));
 size_t mz_set_level(MZ_RESOLVER(MZ_CHANGED), uint16_t level);
 
 /* The namespace of a name: 0 unbound; 1 bound, with the bounds of the URI in the text; 2 unknown, with
- * the bounds of the prefix in the name. With each of the three detail[2] is what mz_second_colon says of the name: an
- * index in it, or its length. With MZ_BAD_RESOLVER and MZ_WRONG_LENGTH all three numbers are 0. */
+ * the bounds of the prefix in the name. */
 size_t mz_resolve(MZ_RESOLVER(MZ_READ), const uint8_t *name, size_t name_len, bool use_default, size_t *detail);
 
 /* The same for many names by one test of the resolver. Name k is tag[from[k]] up to tag[to[k]], and is empty
  * where these are no bounds in the tag; the first `elements` names want the default. kinds[k] is the answer,
- * begins[k] and ends[k] are its bounds, or 0, and seconds[k] is the second colon, or the name's length: that, and the
- * bounds of a prefix, are in the name and not in the tag. 0 where all names are answered; a refusal, and
- * MZ_WRONG_LENGTH where the six arrays have not all the same length, write nothing. */
+ * begins[k] and ends[k] are its bounds, or 0: those of a prefix are in the name and not in the tag. 0 where
+ * all names are answered; a refusal, and MZ_WRONG_LENGTH where the five arrays have not all the same length,
+ * write nothing. */
 size_t mz_resolve_all(MZ_RESOLVER(MZ_READ), const uint8_t *tag, size_t tag_len,
                       const size_t *from, size_t from_len,
                       const size_t *to, size_t to_len, size_t elements,
                       size_t *kinds, size_t kinds_len,
                       size_t *begins, size_t begins_len,
-                      size_t *ends, size_t ends_len,
-                      size_t *seconds, size_t seconds_len);
+                      size_t *ends, size_t ends_len);
 
 /* The first binding shown from a place on, 0 at first: 0 the end; 1 a default, 2 a named one, with the
  * bounds of prefix and value in the text. detail[4] is the place to go on from: behind the binding that

@@ -158,43 +158,7 @@ static void layout(void) {
 #define XML_URI "http://www.w3.org/XML/1998/namespace"
 #define XMLNS_URI "http://www.w3.org/2000/xmlns/"
 
-/* The second colon of each, from the name's start; a name without one has its length. */
-static const struct {
-    const char *name;
-    size_t second;
-} second_colons[] = {{"a:b:c", 3}, {"a:", 2},  {"::", 1},  {":a:", 2}, {"a::", 2},         {"a:b:c:d", 3}, {"xmlns:a:b", 7},
-                     {":", 1},     {"a", 1},   {"", 0},    {":::", 1}, {"p:x", 3},         {"p:x:y", 3},   {"qq:x:y:z", 4},
-                     {"qq:x", 4},  {"xx", 2},  {"p:", 2},  {"p::", 2}, {"xml:lang:a", 8},  {":x:y", 2},    {"qq::", 3}};
-
-/* Colons at one place and at every two of names of every length from 0 to 40, and at all places behind these as well. Each
- * name is allocated at its size. */
-static void second_colon(void) {
-    const uint8_t fills[] = {0, '9', ';', 0xba}; /* 0xba is a colon but for its highest bit */
-    for (size_t k = 0; k < COUNT(second_colons); k++) {
-        hold("mz_second_colon", mz_second_colon(BYTES(second_colons[k].name)) == second_colons[k].second);
-    }
-    for (size_t len = 0; len <= 40; len++) {
-        uint8_t *name = (uint8_t *)block(len);
-        hold("mz_second_colon: no colon", mz_second_colon(name, len) == len);
-        for (size_t one = 0; one < len; one++) {
-            memset(name, one % 2 == 0 ? 'a' : 0xba, len);
-            name[one] = ':';
-            hold("mz_second_colon: one colon", mz_second_colon(name, len) == len && mz_split(name, len) == one);
-            for (size_t two = one + 1; two < len; two++) {
-                for (size_t fill = 0; fill < COUNT(fills); fill++) {
-                    memset(name, fills[fill], len);
-                    name[one] = name[two] = ':';
-                    hold("mz_second_colon: two colons", mz_second_colon(name, len) == two && mz_split(name, len) == one);
-                    memset(name + two, ':', len - two);
-                    hold("mz_second_colon: more of them", mz_second_colon(name, len) == two && mz_split(name, len) == one);
-                }
-            }
-        }
-    }
-}
-
 static void names(void) {
-    second_colon();
     hold("mz_split", mz_split(BYTES("v:id")) == 1 && mz_split(BYTES("id")) == 2);
     hold("mz_declares", mz_declares(BYTES("xmlns")) == 1 && mz_declares(BYTES("xmlns:v")) == 2 &&
                             mz_declares(BYTES("id")) == 0);
@@ -1069,107 +1033,30 @@ static bool is_told(const size_t *detail, size_t a, size_t b) {
     return detail[0] == a && detail[1] == b;
 }
 
-/* The same of a lookup, which has a third number. */
-static bool is_found(const size_t *detail, size_t a, size_t b, size_t second) {
-    return is_told(detail, a, b) && detail[2] == second;
-}
-
 static bool is_head(const struct mz_resolver *r, size_t used, size_t count, size_t level, size_t limit) {
     return r->head[0] == used && r->head[1] == count && r->head[2] == level && r->head[3] == limit;
 }
 
 /* The names of a tag at once: each answer is what mz_resolve says of the name alone. */
 static void all_names(const struct mz_resolver *r) {
-    const char *tag = "x p:x qq:x x p:x:y qq:x:y:z ::";
-    const size_t from[] = {0, 2, 6, 11, 3, 13, 0, SIZE_MAX, 13, 19, 28, 15, 0, 30};
-    const size_t to[] = {1, 5, 10, 12, 2, 14, SIZE_MAX, SIZE_MAX, 18, 27, 30, 18, 30, 30};
-    const size_t elements = 2, n = COUNT(to), seconds_due[] = {1, 3, 4, 1, 0, 1, 0, 0, 3, 4, 1, 3, 8, 0};
-    size_t *kinds = numbers(n), *begins = numbers(n), *ends = numbers(n), *seconds = numbers(n), *d = numbers(MZ_DETAIL);
-#define RESOLVE_ALL(r, elements) \
-    mz_resolve_all(MZ_PASS(r), BYTES(tag), from, n, to, n, elements, kinds, n, begins, n, ends, n, seconds, n)
-    hold("mz_resolve_all", RESOLVE_ALL(*r, elements) == 0);
+    const char *tag = "x p:x qq:x x";
+    const size_t from[] = {0, 2, 6, 11, 3, 13, 0, SIZE_MAX}, to[] = {1, 5, 10, 12, 2, 14, SIZE_MAX, SIZE_MAX};
+    size_t *kinds = numbers(COUNT(to)), *begins = numbers(COUNT(to)), *ends = numbers(COUNT(to)), *d = numbers(MZ_DETAIL);
+    const size_t elements = 2, n = COUNT(to);
+    hold("mz_resolve_all",
+         mz_resolve_all(MZ_PASS(*r), BYTES(tag), from, n, to, n, elements, kinds, n, begins, n, ends, n) == 0);
     for (size_t k = 0; k < n; k++) {
         bool bounds = from[k] <= to[k] && to[k] <= strlen(tag);
         const uint8_t *name = copied(tag) + (bounds ? from[k] : 0);
         size_t kind = mz_resolve(MZ_PASS(*r), name, bounds ? to[k] - from[k] : 0, k < elements, d);
-        hold("mz_resolve_all: a name", kinds[k] == kind && begins[k] == d[0] && ends[k] == d[1] && seconds[k] == d[2]);
-        hold("mz_resolve_all: a second colon", seconds[k] == seconds_due[k]);
-    }
-    hold("mz_resolve_all: its kinds", kinds[8] == 1 && kinds[9] == 2 && ends[9] == 2 && kinds[10] == 2 && ends[10] == 0);
-    /* each of the arrays once one shorter than the others, and once one longer */
-    for (size_t array = 0; array < 12; array++) {
-        size_t lens[] = {n, n, n, n, n, n}, *at[6];
-        lens[array / 2] = array % 2 == 0 ? n - 1 : n + 1;
-        for (size_t k = 0; k < 6; k++) {
-            at[k] = numbers(lens[k]);
-        }
-        memcpy(at[0], from, (lens[0] < n ? lens[0] : n) * sizeof(size_t));
-        memcpy(at[1], to, (lens[1] < n ? lens[1] : n) * sizeof(size_t));
-        hold("mz_resolve_all: a wrong length",
-             mz_resolve_all(MZ_PASS(*r), BYTES(tag), at[0], lens[0], at[1], lens[1], elements, at[2], lens[2], at[3], lens[3],
-                            at[4], lens[4], at[5], lens[5]) == MZ_WRONG_LENGTH);
-        for (size_t k = 2; k < 6; k++) {
-            hold("mz_resolve_all: a wrong length writes nothing", are_untouched(at[k], lens[k]));
-        }
+        hold("mz_resolve_all: a name", kinds[k] == kind && begins[k] == d[0] && ends[k] == d[1]);
     }
     kinds = numbers(n);
-    begins = numbers(n);
-    ends = numbers(n);
-    seconds = numbers(n);
-    {
-        struct mz_resolver *bad = moved(r, FULL);
-        bad->text[MZ_TEXT - 1] = 1;
-        hold("mz_resolve_all: no resolver", RESOLVE_ALL(*bad, elements) == MZ_BAD_RESOLVER && are_untouched(kinds, n) &&
-                                                are_untouched(begins, n) && are_untouched(ends, n) && are_untouched(seconds, n));
-        bad = moved(r, r->head[0] - 1, MZ_RECORD * MZ_RECORDS);
-        hold("mz_resolve_all: not what is in use", RESOLVE_ALL(*bad, elements) == MZ_WRONG_LENGTH && are_untouched(kinds, n) &&
-                                                       are_untouched(begins, n) && are_untouched(ends, n) && are_untouched(seconds, n));
-    }
-    hold("mz_resolve_all: all of them elements", RESOLVE_ALL(*r, SIZE_MAX) == 0 && kinds[3] == kinds[0] && seconds[9] == 4);
-#undef RESOLVE_ALL
-}
-
-/* Each name alone, with a prefix that is bound, one that is not, and none; then in the middle of a tag, behind other colons: the
- * second colon is told in the name, whatever the answer is. */
-static void second_colons_of(const struct mz_resolver *r) {
-    size_t *d = numbers(MZ_DETAIL), kind, begin, end, second, told[3] = {0, 0, 0};
-    for (size_t k = 0; k < COUNT(second_colons); k++) {
-        const char *name = second_colons[k].name;
-        size_t len = strlen(name), due = second_colons[k].second;
-        for (size_t element = 0; element < 2; element++) {
-            size_t from = 5, to = 5 + len;
-            uint8_t *tag = (uint8_t *)block(len + 9);
-            memcpy(tag, "a:b: ", 5);
-            memcpy(tag + 5, name, len);
-            memcpy(tag + 5 + len, " c:d", 4);
-            d = numbers(MZ_DETAIL);
-            kind = mz_resolve(MZ_PASS(*r), BYTES(name), element == 1, d);
-            hold("mz_resolve: a second colon", kind <= 2 && d[2] == due);
-            told[kind]++;
-            hold("mz_resolve_all: in the middle of a tag",
-                 mz_resolve_all(MZ_PASS(*r), tag, len + 9, &from, 1, &to, 1, element, &kind, 1, &begin, 1, &end, 1, &second, 1) == 0 &&
-                     second == due && begin == d[0] && end == d[1]);
-        }
-    }
-    hold("mz_resolve: each kind of answer", told[0] > 2 && told[1] > 9 && told[2] > 9);
-    for (size_t len = 0; len <= 40; len++) {
-        for (size_t one = 0; one < len; one++) {
-            uint8_t *tag = (uint8_t *)memset(block(len + 4), 'p', len + 4);
-            size_t from = 2, to = len + 2;
-            tag[0] = tag[len + 3] = ':';
-            for (size_t turn = 0; turn < 2 * (len - one); turn++) {
-                size_t two = one + turn / 2;
-                memset(tag + 2, turn % 2 == 0 ? 'p' : 0xba, len);
-                tag[2] = 'p'; /* with a colon behind it the prefix that is bound */
-                tag[2 + one] = tag[2 + two] = ':';
-                kind = mz_resolve(MZ_PASS(*r), tag + 2, len, false, d);
-                hold("mz_resolve: colons at two places", kind == (one == 1 ? 1 : 2) && d[2] == (one == two ? len : two));
-                hold("mz_resolve_all: colons at two places",
-                     mz_resolve_all(MZ_PASS(*r), tag, len + 4, &from, 1, &to, 1, 0, &kind, 1, &begin, 1, &end, 1, &second, 1) == 0 &&
-                         second == d[2] && begin == d[0] && end == d[1] && kind == (one == 1 ? 1 : 2));
-            }
-        }
-    }
+    hold("mz_resolve_all: a wrong length", mz_resolve_all(MZ_PASS(*r), BYTES(tag), from, n, to, n, elements, kinds, n, begins,
+                                                          n - 1, ends, n) == MZ_WRONG_LENGTH && are_untouched(kinds, n));
+    hold("mz_resolve_all: all of them elements",
+         mz_resolve_all(MZ_PASS(*r), BYTES(tag), from, n, to, n, SIZE_MAX, kinds, n, begins, n, ends, n) == 0 &&
+             kinds[3] == kinds[0]);
 }
 
 /* A tag that says yes once: the iterator is left behind that attribute, then at the end. */
@@ -1257,21 +1144,15 @@ static void scopes(void) {
                                    r->records[MZ_RECORD * MZ_RECORDS - 1] == 0);
     hold("mz_add", mz_add(MZ_PASS(*r), true, BYTES("p"), BYTES("urn:p"), d) == 0 && is_told(d, 0, 0) &&
                        is_head(r, MZ_FRESH_TEXT + 6, 3, 0, 128));
-    hold("mz_add: it writes two numbers", are_untouched(d + 2, MZ_DETAIL - 2));
     hold("a record", r->records[2 * MZ_RECORD] == MZ_FRESH_TEXT && r->records[2 * MZ_RECORD + 1] == 1 &&
                          r->records[2 * MZ_RECORD + 2] == 5 && r->records[2 * MZ_RECORD + 3] == 0);
     hold("mz_push", mz_push(MZ_PASS(*r), BYTES(tag), 1, d) == MZ_INVALID_XML_PREFIX_BIND &&
                         are((const uint8_t *)tag, d, "w") && r->head[2] == 1);
-    hold("mz_push: it writes two numbers", are_untouched(d + 2, MZ_DETAIL - 2));
-    hold("mz_resolve: bound", mz_resolve(MZ_PASS(*r), BYTES("p:x"), false, d) == 1 && are(r->text, d, "urn:p") && d[2] == 3);
-    hold("mz_resolve: the default", mz_resolve(MZ_PASS(*r), BYTES("x"), true, d) == 1 && are(r->text, d, "u") && d[2] == 1);
-    hold("mz_resolve: unbound", mz_resolve(MZ_PASS(*r), BYTES("x"), false, d) == 0 && is_found(d, 0, 0, 1));
-    hold("mz_resolve: unknown", mz_resolve(MZ_PASS(*r), BYTES("qq:x"), true, d) == 2 && is_found(d, 0, 2, 4));
-    hold("mz_resolve: bound, a second colon", mz_resolve(MZ_PASS(*r), BYTES("p:x:y"), false, d) == 1 && are(r->text, d, "urn:p") &&
-                                                  d[2] == 3);
-    hold("mz_resolve: unknown, a second colon", mz_resolve(MZ_PASS(*r), BYTES("qq:x:y:z"), true, d) == 2 && is_found(d, 0, 2, 4));
+    hold("mz_resolve: bound", mz_resolve(MZ_PASS(*r), BYTES("p:x"), false, d) == 1 && are(r->text, d, "urn:p"));
+    hold("mz_resolve: the default", mz_resolve(MZ_PASS(*r), BYTES("x"), true, d) == 1 && are(r->text, d, "u"));
+    hold("mz_resolve: unbound", mz_resolve(MZ_PASS(*r), BYTES("x"), false, d) == 0 && is_told(d, 0, 0));
+    hold("mz_resolve: unknown", mz_resolve(MZ_PASS(*r), BYTES("qq:x"), true, d) == 2 && is_told(d, 0, 2));
     all_names(r);
-    second_colons_of(r);
     nil(r);
     hold("mz_binding", mz_binding(MZ_PASS(*r), 0, listed) == 2 && are(r->text, listed, "p") &&
                            are(r->text, listed + 2, "urn:p") && listed[4] == 3);
@@ -1285,9 +1166,7 @@ static void scopes(void) {
     r->text[MZ_TEXT - 1] = 1;
     hold("a resolver that is none", mz_pop(MZ_PASS(*r)) == MZ_BAD_RESOLVER && r->text[MZ_TEXT - 1] == 1);
     hold("a listing of it", mz_binding(MZ_PASS(*r), 3, listed) == MZ_BAD_RESOLVER && listed[0] == 0 && listed[4] == 3);
-    hold("a lookup in it", mz_resolve(MZ_PASS(*r), BYTES("p:x"), true, d) == MZ_BAD_RESOLVER && is_found(d, 0, 0, 0));
-    d = numbers(MZ_DETAIL);
-    hold("a second colon in it", mz_resolve(MZ_PASS(*r), BYTES("p:x:y"), true, d) == MZ_BAD_RESOLVER && is_found(d, 0, 0, 0));
+    hold("a lookup in it", mz_resolve(MZ_PASS(*r), BYTES("p:x"), true, d) == MZ_BAD_RESOLVER && is_told(d, 0, 0));
     r = moved(other, FULL);
     r->head[2] = 65536;
     hold("a level that is none", mz_binding_of(MZ_PASS(*r), 1, 5, listed) == MZ_BAD_RESOLVER && listed[4] == 5);
@@ -1327,8 +1206,6 @@ static void wrong_lengths(void) {
         hold("MZ_WRONG_LENGTH", mz_add(MZ_PASS(*other), false, BYTES(""), BYTES(""), d) == MZ_WRONG_LENGTH &&
                                     mz_resolve(MZ_PASS(*other), BYTES("p:x"), true, d) == MZ_WRONG_LENGTH &&
                                     mz_pop(MZ_PASS(*other)) == MZ_WRONG_LENGTH && same(other, before));
-        hold("MZ_WRONG_LENGTH: a second colon", mz_resolve(MZ_PASS(*other), BYTES("p:x:y"), true, d) == MZ_WRONG_LENGTH &&
-                                                    is_found(d, 0, 0, 0));
         hold("MZ_WRONG_LENGTH: the detail", is_told(d, 0, 0) && mz_binding(MZ_PASS(*other), 7, listed) == MZ_WRONG_LENGTH &&
                                                 listed[3] == 0 && listed[4] == 7);
         hold("MZ_WRONG_LENGTH: mz_fresh", k >= 2 || (mz_fresh(MZ_PASS(*other)) == MZ_WRONG_LENGTH && same(other, before)));
@@ -1387,7 +1264,7 @@ static void short_memory(void) {
 static void far(struct mz_resolver *r, size_t position) {
     const char *tag = "a='1' xmlns:q='u'";
     struct reader it = opened(2, MZ_NEXT, position);
-    size_t *out = numbers(MZ_ANSWER), *d = numbers(MZ_DETAIL), *listed = numbers(MZ_LISTED), kind, begin, end, second;
+    size_t *out = numbers(MZ_ANSWER), *d = numbers(MZ_DETAIL), *listed = numbers(MZ_LISTED), kind, begin, end;
     hold("far: mz_read_batch", mz_read_batch(BYTES(tag), KEYS(it), false, true, out, MZ_ANSWER) == 0 &&
                                    is_at(it, MZ_NEXT, position, 0, MZ_END) && are_untouched(out, MZ_ANSWER));
     hold("far: mz_has_nil", mz_has_nil(MZ_PASS(*r), BYTES(tag), KEYS(it), true, true) == 0 &&
@@ -1415,10 +1292,8 @@ static void far(struct mz_resolver *r, size_t position) {
     hold("far: mz_binding_of", mz_binding_of(MZ_PASS(*r), 0, position, listed) == 0 && listed[3] == 0 && listed[4] == position);
     for (size_t bound = 0; bound < 3; bound++) {
         size_t from = bound == 0 ? 6 : position, to = bound == 1 ? position + 3 : position;
-        second = 1;
-        hold("far: mz_resolve_all",
-             mz_resolve_all(MZ_PASS(*r), BYTES(tag), &from, 1, &to, 1, 0, &kind, 1, &begin, 1, &end, 1, &second, 1) == 0 &&
-                 kind == 0 && begin == 0 && end == 0 && second == 0);
+        hold("far: mz_resolve_all", mz_resolve_all(MZ_PASS(*r), BYTES(tag), &from, 1, &to, 1, 0, &kind, 1, &begin, 1, &end, 1) == 0 &&
+                                        kind == 0 && begin == 0 && end == 0);
     }
 }
 
@@ -1442,8 +1317,7 @@ static void empty_and_null(void) {
     size_t *d = numbers(MZ_DETAIL), *listed = numbers(MZ_LISTED), *out = numbers(MZ_ANSWER);
     struct mz_resolver *r = fresh(FULL), nothing = {NULL, 0, NULL, 0, {0, 0, 0, 0}};
     struct reader it = opened(0, MZ_NEXT, 0);
-    hold("null: names", mz_split(NONE) == 0 && mz_second_colon(NONE) == 0 && mz_declares(NONE) == 0 && !mz_is_xml(NONE) &&
-                            !mz_is_xmlns(NONE));
+    hold("null: names", mz_split(NONE) == 0 && mz_declares(NONE) == 0 && !mz_is_xml(NONE) && !mz_is_xmlns(NONE));
     hold("null: mz_verdict", mz_verdict(NONE, NONE) == 2 && mz_verdict(BYTES("xmlns"), NONE) == 1);
     hold("null: mz_as_bool", mz_as_bool(NONE) == 2);
     hold("null: a tag", mz_read_batch(NONE, NONE, NONE, NONE, it.state, false, true, NONE) == 0 && it.state[0] == MZ_NEXT &&
@@ -1463,16 +1337,15 @@ static void empty_and_null(void) {
     hold("null: a position beside done", mz_read_batch(NONE, NONE, NONE, NONE, it.state, true, true, out, MZ_ANSWER) == 0 &&
                                              is_at(it, MZ_DONE, SIZE_MAX, 0, MZ_END));
     hold("null: a resolver", mz_fresh(MZ_PASS(nothing)) == MZ_LEND_MORE && mz_pop(MZ_PASS(nothing)) == MZ_BAD_RESOLVER &&
-                                 mz_resolve(MZ_PASS(nothing), NONE, true, d) == MZ_BAD_RESOLVER && is_found(d, 0, 0, 0));
+                                 mz_resolve(MZ_PASS(nothing), NONE, true, d) == MZ_BAD_RESOLVER && is_told(d, 0, 0));
     nothing.head[0] = 1;
     hold("null: a resolver that is not lent", mz_pop(MZ_PASS(nothing)) == MZ_WRONG_LENGTH &&
                                                   mz_set_level(MZ_PASS(nothing), 1) == MZ_WRONG_LENGTH);
     hold("null: mz_add", mz_add(MZ_PASS(*r), true, NONE, NONE, d) == 0 && mz_add(MZ_PASS(*r), false, NONE, NONE, d) == 0);
     hold("null: mz_push", mz_push(MZ_PASS(*r), NONE, 0, d) == 0 && mz_push(MZ_PASS(*r), NONE, 7, d) == 0);
-    hold("null: mz_resolve", mz_resolve(MZ_PASS(*r), NONE, true, d) == 0 && is_found(d, 0, 0, 0));
-    hold("null: mz_resolve_all", mz_resolve_all(MZ_PASS(*r), NONE, NONE, NONE, 0, NONE, NONE, NONE, NONE) == 0 &&
-                                     mz_resolve_all(MZ_PASS(*r), NONE, NONE, NONE, 1, NONE, NONE, listed, 1, NONE) == MZ_WRONG_LENGTH &&
-                                     mz_resolve_all(MZ_PASS(*r), NONE, NONE, NONE, 1, NONE, NONE, NONE, listed, 1) == MZ_WRONG_LENGTH);
+    hold("null: mz_resolve", mz_resolve(MZ_PASS(*r), NONE, true, d) == 0 && is_told(d, 0, 0));
+    hold("null: mz_resolve_all", mz_resolve_all(MZ_PASS(*r), NONE, NONE, NONE, 0, NONE, NONE, NONE) == 0 &&
+                                     mz_resolve_all(MZ_PASS(*r), NONE, NONE, NONE, 1, NONE, NONE, listed, 1) == MZ_WRONG_LENGTH);
     hold("null: mz_binding", mz_binding(MZ_PASS(*r), 0, listed) == 0 && listed[4] == 0);
     it.state[0] = MZ_NEXT;
     it.state[1] = 0;

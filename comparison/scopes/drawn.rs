@@ -7,10 +7,10 @@ use crate::lent::{BUILT_IN, BUILT_IN_TEXT, Call, DEEPEST, LIMIT, Scope};
 use oracle::NamespaceResolver;
 use oracle::scopes;
 
-/// Names whose prefix is one of `PREFIXES`, nearly one, missing or empty; some with a second colon and more.
-pub const NAMES: [&str; 22] = [
+/// Names whose prefix is one of `PREFIXES`, nearly one, missing or empty.
+pub const NAMES: [&str; 14] = [
     "", "a", ":", ":a", "p", "p:", "p:a", "q:b:c", "pp:a", "xml:lang", "xmlns", "xmlns:p",
-    "\u{e9}:a", "zz:a", "zz:b:c", "p:b:c:d", "::", ":a:", "p::", "xml:a:b", "xmlns::", "q::b",
+    "\u{e9}:a", "zz:a",
 ];
 
 /// How calls are drawn.

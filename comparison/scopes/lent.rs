@@ -1,7 +1,6 @@
 //! The memory that a resolver is lent in, and the calls on it: as the library takes them, and as the
 //! crate does.
 
-use crate::colons::second_colon;
 use crate::due::{RECORDS, TEXT, Wanted, add_wanted, push_wanted};
 use crate::library;
 use oracle::NamespaceResolver;
@@ -65,8 +64,8 @@ pub enum Call {
     /// The limit is a number of the caller's own: nothing is called for it.
     SetLimit(usize),
     Resolve(String, bool),
-    /// Names of one tag, the first so many of them elements'. Kinds, begins, ends and second colons stand one
-    /// behind the other in the detail.
+    /// Names of one tag, the first so many of them elements'. Kinds, begins and ends stand one behind the
+    /// other in the detail.
     ResolveAll(Vec<String>, usize),
     Binding(usize),
     BindingOf(u16, usize),
@@ -85,9 +84,8 @@ impl Call {
     pub const fn detail_len(&self) -> usize {
         match self {
             Call::Binding(_) | Call::BindingOf(..) => 5,
-            Call::Resolve(..) => 3,
-            Call::Add(..) | Call::Push(..) => 2,
-            Call::ResolveAll(names, _) => 4 * names.len(),
+            Call::Add(..) | Call::Push(..) | Call::Resolve(..) => 2,
+            Call::ResolveAll(names, _) => 3 * names.len(),
             Call::Fresh | Call::Pop | Call::SetLevel(_) | Call::SetLimit(_) => 0,
         }
     }
@@ -123,8 +121,7 @@ impl Call {
     }
 
     /// The detail that is due with an answer: the numbers that the answer has, then zeros; where a listing
-    /// shows nothing the place that was asked comes last. Of many names a refusal writes nothing. What the numbers
-    /// lack is where a name that is answered has its second colon: the crate does not tell, so it is found here.
+    /// shows nothing the place that was asked comes last. Of many names a refusal writes nothing.
     pub fn detail_of(&self, code: usize, numbers: &[usize]) -> Vec<usize> {
         let len = self.detail_len();
         let mut detail = numbers.to_vec();
@@ -135,22 +132,7 @@ impl Call {
             }
             _ => detail.resize(len, 0),
         }
-        self.put_second_colons(code, &mut detail);
         detail
-    }
-
-    /// The second colons of the names that a lookup answers, at their places in its detail. A refusal tells none.
-    pub fn put_second_colons(&self, code: usize, detail: &mut [usize]) {
-        match self {
-            Call::Resolve(name, _) if code <= 2 => detail[2] = second_colon(name.as_bytes()),
-            Call::ResolveAll(names, _) if code == 0 => {
-                let seconds = &mut detail[3 * names.len()..];
-                for (second, name) in seconds.iter_mut().zip(names) {
-                    *second = second_colon(name.as_bytes());
-                }
-            }
-            _ => (),
-        }
     }
 
     /// Whether it can change the resolver.
@@ -224,8 +206,7 @@ fn resolve_all(
     let tag: String = names.iter().map(|name| format!("{name} ")).collect();
     let (from, to) = bounds(names);
     let (kinds, rest) = detail.split_at_mut(names.len());
-    let (begins, rest) = rest.split_at_mut(names.len());
-    let (ends, seconds) = rest.split_at_mut(names.len());
+    let (begins, ends) = rest.split_at_mut(names.len());
     call!(
         mz_resolve_all,
         scope,
@@ -241,18 +222,16 @@ fn resolve_all(
         begins.as_mut_ptr(),
         begins.len(),
         ends.as_mut_ptr(),
-        ends.len(),
-        seconds.as_mut_ptr(),
-        seconds.len()
+        ends.len()
     )
 }
 
-/// The answer to names whose six arrays have lengths of their own, the first so many of each.
-pub fn resolve_all_of(scope: &mut Scope, lens: [usize; 6]) -> usize {
+/// The answer to names whose five arrays have lengths of their own, the first so many of each.
+pub fn resolve_all_of(scope: &mut Scope, lens: [usize; 5]) -> usize {
     let tag = "p:a a";
     let (from, to) = ([0, 4, 0], [3, 5, 0]);
-    let mut told = [[UNTOUCHED; 3]; 4];
-    let [kinds, begins, ends, seconds] = told.each_mut().map(|numbers| numbers.as_mut_ptr());
+    let mut told = [[UNTOUCHED; 3]; 3];
+    let [kinds, begins, ends] = told.each_mut().map(|numbers| numbers.as_mut_ptr());
     let code = call!(
         mz_resolve_all,
         scope,
@@ -268,9 +247,7 @@ pub fn resolve_all_of(scope: &mut Scope, lens: [usize; 6]) -> usize {
         begins,
         lens[3].min(3),
         ends,
-        lens[4].min(3),
-        seconds,
-        lens[5].min(3)
+        lens[4].min(3)
     );
     let written = told.as_flattened().iter().any(|n| *n != UNTOUCHED);
     match written {

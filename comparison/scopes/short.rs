@@ -67,8 +67,7 @@ fn due(call: &Call, lent: &Scope) -> Left {
     if !fits {
         return Left::unchanged(WRONG_LENGTH, call, lent);
     }
-    let mut whole = Left::by(call, lent.with_lengths(TEXT, NUMBERS));
-    call.put_second_colons(whole.code, &mut whole.detail);
+    let whole = Left::by(call, lent.with_lengths(TEXT, NUMBERS));
     if call.changes() && !lent.holds(whole.scope.head[0], whole.scope.head[1]) {
         return Left::unchanged(LEND_MORE, call, lent);
     }

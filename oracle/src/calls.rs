@@ -1,11 +1,9 @@
 //! The recorded calls on a resolver: runs of calls, each from a fresh one, and after each call that
-//! changes it some names resolved and the listings. With a name that is resolved stands its second colon,
-//! whatever the crate answers, and not from the crate.
+//! changes it some names resolved and the listings.
 
 use crate::cases::Lcg;
 use crate::declarations::{PREFIXES, Tags, VALUES, XML_URI, drawn_prefix, drawn_tag, drawn_value};
 use crate::due::{Shown, Wanted, add_wanted, listing, push_wanted, resolved_wanted};
-use crate::{NO_COLON, second_colon, shown_colon};
 use oracle::text::shown;
 use oracle::{NamespaceResolver, QName, scopes};
 
@@ -65,14 +63,6 @@ impl Call {
             Call::ResolveElement(name) => format!("resolve_element {}", bars(name)),
             Call::Binding(place) => format!("bindings {place}"),
             Call::BindingOf(place, level) => format!("bindings_of {level} {place}"),
-        }
-    }
-
-    /// The name that it resolves, if it does.
-    fn name(&self) -> Option<&str> {
-        match self {
-            Call::ResolveAttribute(name) | Call::ResolveElement(name) => Some(name),
-            _ => None,
         }
     }
 
@@ -177,7 +167,6 @@ fn cases() -> Result<Vec<Case>, String> {
     stated(&mut list)?;
     reserved(&mut list)?;
     ends(&mut list)?;
-    colons(&mut list)?;
     let mut lcg = Lcg::new(SEED);
     for run in 0..40 {
         drawn(&mut list, &mut lcg, run)?;
@@ -242,38 +231,6 @@ fn ends(list: &mut List) -> Result<(), String> {
     list.change(Call::SetLevel(0))
 }
 
-/// Names with no colon, with one and with more.
-const COLONS: [&str; 21] = [
-    "", "a", ":", "::", ":::", ":a:", "a:", "a::", "a:b:", "a:b:c", "a:b:c:d", "p:", "p::", "p:a",
-    "p:a:", "p:a:b", "p:a:b:c", "xml:a", "xml:a:b", "xmlns:a", "\u{e9}::",
-];
-
-const FAR_COLONS: [&str; 11] = [
-    "xmlns:a:b",
-    "p:local:a",
-    "p:locals:",
-    "prefix:local-name",
-    "prefix:local-nam:",
-    "prefix:local-name:a",
-    "prefixes::a",
-    "prefixes:local:a",
-    "prefixes:local-name:",
-    "other-prefix:local-name:a:b",
-    "p:a-local-name-of-more-than-32-bytes:",
-];
-
-/// Names resolved where some of their prefixes are bound, and a default.
-fn colons(list: &mut List) -> Result<(), String> {
-    let tag = "xmlns='d' xmlns:p='u' xmlns:prefix='v' xmlns:prefixes='w'";
-    list.call(Call::Fresh)?;
-    list.call(Call::Push(tag.to_string(), 0))?;
-    for name in COLONS.into_iter().chain(FAR_COLONS) {
-        list.call(Call::ResolveElement(name.to_string()))?;
-        list.call(Call::ResolveAttribute(name.to_string()))?;
-    }
-    Ok(())
-}
-
 /// A run of drawn calls.
 fn drawn(list: &mut List, lcg: &mut Lcg, run: usize) -> Result<(), String> {
     let tags = Tags {
@@ -309,9 +266,7 @@ pub fn text() -> Result<String, String> {
     let mut text = format!(
         "# What quick-xml 0.42.0's resolver answers to {} calls. Written by oracle/record, which runs the crate's own source.\n\
          # The list is in oracle/src/calls.rs; its drawn tags come from oracle/src/declarations.rs, seed {SEED}.\n\
-         # A line: the call, with texts between bars; the answer's code and its numbers, and of a name that is resolved its second\n\
-         # colon's index or -, behind a comma; text used, record count and level after the call. The second colon is not quick-xml's\n\
-         # answer: Rust's standard library finds it, by match_indices.\n\
+         # A line: the call, with texts between bars; the answer's code and its numbers; text used, record count and level after it.\n\
          # scopes.bin has the same calls in the same order; recorded/README.md says what the codes and numbers are.\n",
         cases.len()
     );
@@ -320,11 +275,8 @@ pub fn text() -> Result<String, String> {
         let [used, count, level] = case.left;
         let call = case.call.text();
         let code = case.wanted.code;
-        let colon = case.call.name().map_or(String::new(), |name| {
-            format!(", {}", shown_colon(second_colon(name)))
-        });
         text.push_str(&format!(
-            "{call}: {code}{numbers}{colon}; {used} {count} {level}\n"
+            "{call}: {code}{numbers}; {used} {count} {level}\n"
         ));
     }
     Ok(text)
@@ -343,9 +295,6 @@ pub fn bytes(two: impl Fn(usize) -> [u8; 2]) -> Result<Vec<u8>, String> {
         }
         let mut detail = case.wanted.detail;
         detail.resize(5, 0);
-        if let Some(name) = case.call.name() {
-            detail[2] = second_colon(name).unwrap_or(NO_COLON);
-        }
         let answer = [case.wanted.code]
             .into_iter()
             .chain(detail)

@@ -1,6 +1,6 @@
 //! Writes the oracle's answers about fixed lists of names, tags, calls on a resolver and questions, as text
 //! for people and as bytes for a program that knows no strings. The two forms hold the same cases in the
-//! same order. With each name stands its second colon, which the oracle does not tell: see `second_colon`.
+//! same order.
 //!
 //! Usage: `record names|tags|scopes|asked text|bytes`.
 
@@ -60,18 +60,6 @@ fn two(number: usize) -> [u8; 2] {
         .to_le_bytes()
 }
 
-// The index of a name's second colon, by Rust's own search. quick-xml has no such answer.
-fn second_colon(name: &str) -> Option<usize> {
-    name.match_indices(':').nth(1).map(|(at, _)| at)
-}
-
-// What is recorded where there is no colon, and what is shown.
-const NO_COLON: usize = 65_535;
-
-fn shown_colon(colon: Option<usize>) -> String {
-    colon.map_or("-".to_string(), |at| at.to_string())
-}
-
 // ---- names
 
 // Names around the reserved ones. Every beginning of each is in the list; the first five also with
@@ -106,47 +94,6 @@ const MANY_BYTES: [&str; 14] = [
     "\u{feff}xmlns",
 ];
 
-// Names with no colon, with one and with more. `:` and `::` stand in `names`.
-const COLONS: [&str; 15] = [
-    "a",
-    "a:",
-    "a:b",
-    "a:b:c",
-    "a:b:",
-    "a::",
-    "a::b",
-    ":a:",
-    ":a:b",
-    "::a",
-    "a:b:c:d",
-    "a:::",
-    "xmlns:a:b",
-    "xmlns:a:b:c",
-    "xml:a:b",
-];
-
-// Names with their first two colons beside the ends of 8, 16 and 32 bytes and at the last byte, and with the first
-// one alone.
-fn colons_apart() -> Vec<String> {
-    let mut names = Vec::new();
-    for len in [7, 8, 9, 15, 16, 17, 33, 41] {
-        for first in [1, 6, 7, 8] {
-            let places = [first + 1, 7, 8, 9, 15, 16, 31, 32, len - 1, len];
-            let seconds = places.into_iter().filter(|&at| first < at && at <= len);
-            names.extend(seconds.map(|second| with_colons(len, [first, second])));
-        }
-    }
-    names
-}
-
-// A name of so many bytes with colons at these places, where one at its end is none. Of the others every second is a
-// colon but for one bit.
-fn with_colons(len: usize, places: [usize; 2]) -> String {
-    let other = |at: usize| if at.is_multiple_of(2) { 'a' } else { ';' };
-    let byte = |at| if places.contains(&at) { ':' } else { other(at) };
-    (0..len).map(byte).collect()
-}
-
 // The names, each once, in the order in which they are thought of.
 fn names() -> Vec<String> {
     let mut names: Vec<String> = ["", ":", "::", ":::", "::::", "a b:c", "\t:", "\0:\0"]
@@ -159,8 +106,6 @@ fn names() -> Vec<String> {
         names.extend(one_byte_off(name));
     }
     names.extend(MANY_BYTES.map(String::from));
-    names.extend(COLONS.map(String::from));
-    names.extend(colons_apart());
     let mut lcg = Lcg::new(NAMES_SEED);
     for len in 2..=5 {
         let drawn = (0..20).map(|_| cases::drawn(&mut lcg, b"xmlns:a", len));
@@ -185,10 +130,9 @@ fn one_byte_off(name: &str) -> Vec<String> {
     off
 }
 
-// What the oracle says about a name, and its second colon.
+// What the oracle says about a name.
 struct About {
     colon: Option<usize>,
-    second: Option<usize>,
     kind: u8,
     prefix_start: usize,
     is_xml: bool,
@@ -204,7 +148,6 @@ fn about(name: &str) -> About {
     };
     About {
         colon: prefix.map(str::len),
-        second: second_colon(name),
         kind,
         prefix_start,
         is_xml: prefix.is_some_and(scopes::is_xml),
@@ -217,20 +160,19 @@ fn names_text() -> String {
     let mut text = format!(
         "# What quick-xml 0.42.0 answers about {} names. Written by oracle/record, which runs the crate's own source.\n\
          # The list is in oracle/src/record.rs; its drawn names come from the generator in oracle/src/cases.rs, seed {NAMES_SEED}.\n\
-         # A line: the first colon's index or -; the second's or -; what the name declares (no, default, prefix); where the\n\
-         # declared prefix begins or 0; whether the part before the first colon is xml, and whether it is xmlns (0 or 1); the\n\
-         # name between bars. The second colon is not quick-xml's answer: Rust's standard library finds it, by match_indices.\n\
+         # A line: the first colon's index or -; what the name declares (no, default, prefix); where the declared prefix\n\
+         # begins or 0; whether the part before the colon is xml, and whether it is xmlns (0 or 1); the name between bars.\n\
          # names.bin has the same cases in the same order, see recorded/README.md.\n",
         names.len()
     );
     for name in &names {
         let a = about(name);
-        let (colon, second) = (shown_colon(a.colon), shown_colon(a.second));
+        let colon = a.colon.map_or("-".to_string(), |at| at.to_string());
         let kind = ["no", "default", "prefix"][usize::from(a.kind)];
         let (xml, xmlns) = (u8::from(a.is_xml), u8::from(a.is_xmlns));
         let name = text::shown(name.as_bytes());
         text.push_str(&format!(
-            "{colon} {second} {kind} {} {xml} {xmlns} |{name}|\n",
+            "{colon} {kind} {} {xml} {xmlns} |{name}|\n",
             a.prefix_start
         ));
     }
@@ -238,11 +180,11 @@ fn names_text() -> String {
 }
 
 fn name_bytes(name: &str) -> Vec<u8> {
+    const NO_COLON: usize = 65_535;
     let a = about(name);
     let mut bytes = two(name.len()).to_vec();
     bytes.extend_from_slice(name.as_bytes());
     bytes.extend_from_slice(&two(a.colon.unwrap_or(NO_COLON)));
-    bytes.extend_from_slice(&two(a.second.unwrap_or(NO_COLON)));
     bytes.push(a.kind);
     bytes.extend_from_slice(&two(a.prefix_start));
     bytes.push(u8::from(a.is_xml));

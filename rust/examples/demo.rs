@@ -1,8 +1,6 @@
 //! Reads a catalogue and prints which chunk goes where. Where a tag is damaged it says so, with the line
 //! and a mark under the byte, and what else stands in the tag is read all the same. A catalogue that ends
-//! too early is damaged as well. A name with more than one colon, which Namespaces in XML forbids, is shown
-//! with a mark under the second one, and how it is read is said. That is not counted as a fault, and names
-//! that declare a namespace are passed over.
+//! too early is damaged as well.
 //!
 //! Usage: `demo [CATALOGUE]`; without one, `catalogue.xml` beside this file. Lines and columns count from 1.
 //!
@@ -83,22 +81,6 @@ impl<'d> Reader<'d> {
         self.report.push_str(&shown);
     }
 
-    /// Says of a name in the document how it is read, if it has more than one colon: who sees the local name
-    /// `b:c` shall know where it comes from.
-    fn note(&mut self, name: QName<'d>) {
-        let (Some(second), (local, Some(prefix))) = (name.second_colon(), name.decompose()) else {
-            return;
-        };
-        let (prefix, local) = (prefix.into_inner(), local.into_inner());
-        let what = format!(
-            "more than one colon in a name, which Namespaces in XML forbids; \
-             read as the prefix `{prefix}` and the local name `{local}`"
-        );
-        let start = name.0.as_ptr().addr() - self.document.as_ptr().addr();
-        let shown = show(self.document, start + second, &what);
-        self.report.push_str(&shown);
-    }
-
     /// The values of a tag's attributes that have these names, each without a prefix or in a namespace.
     fn values<const N: usize>(
         &mut self,
@@ -119,10 +101,6 @@ impl<'d> Reader<'d> {
                     continue;
                 }
             };
-            // `xmlns:p:q` is read as a declaration, that of the prefix `p:q`
-            if attribute.key.as_namespace_binding().is_none() {
-                self.note(attribute.key);
-            }
             let (resolved, local) = self.resolver.resolve_attribute(attribute.key);
             let namespace = match resolved {
                 ResolveResult::Unbound => None,
@@ -145,7 +123,6 @@ impl<'d> Reader<'d> {
         let event = BytesStart::from_content(tag, name_len);
         self.resolver.push(&event)?;
         self.depth += 1;
-        self.note(QName(name_of(tag)));
         match self.catalogued(event.name()) {
             Some("volume") => {
                 [self.volume] = self.values(start, tag, name_len, [(None, "name")]);

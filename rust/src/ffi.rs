@@ -55,9 +55,8 @@ pub type Record = [usize; 4];
 /// Text used, number of records, level and limit of a resolver.
 pub type Head = [usize; 4];
 
-/// The numbers of an answer about a resolver, and those of one in a listing. The third number is a lookup's alone, the
-/// second colon of the name; what declares writes two.
-pub type Detail = [usize; 3];
+/// The numbers of an answer about a resolver, and those of one in a listing.
+pub type Detail = [usize; 2];
 pub type Listed = [usize; 5];
 
 /// The answer of a call for which the memory that is lent is too short. Nothing is changed then.
@@ -132,13 +131,6 @@ fn differences(says: impl Fn(usize) -> usize) -> String {
 pub fn split(name: &[u8]) -> usize {
     // SAFETY: pointer and length are those of one live slice, which the call only reads.
     unsafe { library::mz_split(name.as_ptr(), name.len()) }
-}
-
-/// The index of the second colon, or the length where there is none.
-#[inline]
-pub fn second_colon(name: &[u8]) -> usize {
-    // SAFETY: as for `mz_split`.
-    unsafe { library::mz_second_colon(name.as_ptr(), name.len()) }
 }
 
 /// 0 nothing, 1 the default, 2 the prefix from index 6 on.
@@ -839,7 +831,7 @@ impl Lent<'_> {
     /// 0, or a refusal with its numbers; bounds are those in the prefix or the value.
     #[inline]
     pub(crate) fn add(&mut self, prefix: Option<&[u8]>, value: &[u8]) -> (usize, Detail) {
-        let mut detail: Detail = [0; 3];
+        let mut detail: Detail = [0; 2];
         let named = prefix.is_some();
         let prefix = prefix.unwrap_or_default();
         let answer = call!(
@@ -858,7 +850,7 @@ impl Lent<'_> {
     /// 0, or a refusal with its numbers; bounds are those in the tag.
     #[inline]
     pub(crate) fn push(&mut self, tag: &[u8], at: usize) -> (usize, Detail) {
-        let mut detail: Detail = [0; 3];
+        let mut detail: Detail = [0; 2];
         let to = detail.as_mut_ptr();
         let answer = call!(mz_push, self.as_mut_ptr(), tag.as_ptr(), tag.len(), at, to);
         (answer, detail)
@@ -883,11 +875,10 @@ impl View<'_> {
         self.binding(usize::MAX).0 == 0
     }
 
-    /// 0 unbound, 1 bound, with the URI's bounds in the text, 2 unknown, with the prefix's in the name; and behind these
-    /// the second colon, or the name's length.
+    /// 0 unbound, 1 bound, with the URI's bounds in the text, 2 unknown, with the prefix's in the name.
     #[inline]
     pub(crate) fn resolve(self, name: &[u8], use_default: bool) -> (usize, Detail) {
-        let mut detail: Detail = [0; 3];
+        let mut detail: Detail = [0; 2];
         let to = detail.as_mut_ptr();
         let answer = call!(
             mz_resolve,
@@ -913,10 +904,12 @@ impl View<'_> {
             kinds,
             begins,
             ends,
-            seconds,
         } = answers;
-        let [kinds, begins, ends, seconds] =
-            [kinds, begins, ends, seconds].map(|numbers| &mut numbers[..from.len()]);
+        let (kinds, begins, ends) = (
+            &mut kinds[..from.len()],
+            &mut begins[..from.len()],
+            &mut ends[..from.len()],
+        );
         call!(
             mz_resolve_all,
             self.as_ptr(),
@@ -932,9 +925,7 @@ impl View<'_> {
             begins.as_mut_ptr(),
             begins.len(),
             ends.as_mut_ptr(),
-            ends.len(),
-            seconds.as_mut_ptr(),
-            seconds.len()
+            ends.len()
         )
     }
 
@@ -1006,7 +997,6 @@ pub struct Answers {
     kinds: [usize; NAMES],
     begins: [usize; NAMES],
     ends: [usize; NAMES],
-    seconds: [usize; NAMES],
 }
 
 impl Answers {
@@ -1016,14 +1006,12 @@ impl Answers {
             kinds: [0; NAMES],
             begins: [0; NAMES],
             ends: [0; NAMES],
-            seconds: [0; NAMES],
         }
     }
 
     /// One of them.
     pub const fn get(&self, index: usize) -> (usize, Detail) {
-        let detail = [self.begins[index], self.ends[index], self.seconds[index]];
-        (self.kinds[index], detail)
+        (self.kinds[index], [self.begins[index], self.ends[index]])
     }
 }
 

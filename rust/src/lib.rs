@@ -26,10 +26,6 @@
 //! A tag that comes in pieces, cut wherever a buffer ends, is read as they come
 //! ([`Pieces`](events::attributes::Pieces)): the same attributes, each as soon as its last byte is there.
 //!
-//! A name splits at its first colon, as in quick-xml, so that `a:b:c` has the local name `b:c`. Whether there is a second
-//! colon, and where, is told beside that ([`QName::second_colon`](name::QName::second_colon),
-//! [`resolve_with_second_colon`](name::NamespaceResolver::resolve_with_second_colon)).
-//!
 //! Values are not normalised: they are those that stand in the tag, and references in them are not replaced.
 //! Of Rust's libraries `core` and `alloc` are needed, and not `std`.
 //!
@@ -47,7 +43,7 @@
 //! | [`Pieces`](events::attributes::Pieces) | 1,240: the same, and numbers; the bytes of the tag on the heap | `with_tables`: 150, beside tables and bytes |
 //! | [`Tables`](events::attributes::Tables) | 30,800: places for all keys, and for 256 answers | a box or a static, or [`Tables::from_bytes`](events::attributes::Tables::from_bytes) |
 //! | [`Memory`](name::Memory) of full size | 98,400 | [`Memory::boxed`](name::Memory::boxed), a static, or [smaller numbers](name::Memory) |
-//! | [`ResolvedNames`](name::ResolvedNames) | 640: the answers for 16 names | one name at a time |
+//! | [`ResolvedNames`](name::ResolvedNames) | 512 | one name at a time |
 //! | [`NamespaceResolver`](name::NamespaceResolver) | 80; 40 where its memory is lent | |
 //!
 //! # Panics
@@ -84,6 +80,6 @@ const _: () = {
     assert!(size_of::<Attributes<&mut Tables>>() <= 40);
     assert!(size_of::<Pieces>() <= 1_240 && size_of::<Pieces<&mut Tables, &mut [u8]>>() <= 150);
     assert!(size_of::<Tables>() <= 30_800 && size_of::<Memory>() <= 98_400);
-    assert!(size_of::<ResolvedNames>() <= 640);
+    assert!(size_of::<ResolvedNames>() <= 512);
     assert!(size_of::<NamespaceResolver>() <= 80 && size_of::<NamespaceResolver<Lent>>() <= 40);
 };

@@ -17,7 +17,6 @@ unsafe extern "C" {
     pub safe fn mz_layout(what: usize) -> usize;
 
     pub fn mz_split(name: *const u8, name_len: usize) -> usize;
-    pub fn mz_second_colon(name: *const u8, name_len: usize) -> usize;
     pub fn mz_declares(name: *const u8, name_len: usize) -> usize;
     pub fn mz_is_xml(prefix: *const u8, prefix_len: usize) -> u8;
     pub fn mz_is_xmlns(prefix: *const u8, prefix_len: usize) -> u8;
@@ -100,8 +99,7 @@ on_a_resolver! { const:
     mz_resolve(name: *const u8, name_len: usize, use_default: bool, detail: *mut usize);
     mz_resolve_all(tag: *const u8, tag_len: usize, from: *const usize, from_len: usize,
         to: *const usize, to_len: usize, elements: usize, kinds: *mut usize, kinds_len: usize,
-        begins: *mut usize, begins_len: usize, ends: *mut usize, ends_len: usize,
-        seconds: *mut usize, seconds_len: usize);
+        begins: *mut usize, begins_len: usize, ends: *mut usize, ends_len: usize);
     mz_binding(place: usize, detail: *mut usize);
     mz_binding_of(level: u16, place: usize, detail: *mut usize);
     mz_has_nil(tag: *const u8, tag_len: usize, key_starts: *mut usize, key_starts_len: usize,

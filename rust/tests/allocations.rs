@@ -4,7 +4,7 @@
 
 use mezzulidda::events::BytesStart;
 use mezzulidda::events::attributes::{Attributes, Pieces, Tables};
-use mezzulidda::name::{Memory, NamespaceResolver, QName, ResolveResult};
+use mezzulidda::name::{Memory, NamespaceResolver, ResolveResult};
 use std::alloc::{GlobalAlloc, Layout, System};
 use std::cell::Cell;
 
@@ -54,8 +54,6 @@ fn allocations(call: impl FnOnce()) -> usize {
 }
 
 const TAG: &str = "p:chunk xmlns='urn:a' xmlns:p='urn:p' id=\"c-17\" p:offset='0' id='' bare";
-/// A name of a namespace that is bound, with a second colon.
-const SECOND: QName = QName("p:old:id");
 
 #[test]
 fn the_allocator_counts() {
@@ -178,8 +176,7 @@ fn pieces() {
 #[test]
 fn scopes() {
     let tag = BytesStart::from_content(TAG, 7);
-    let mut keys: Vec<_> = tag.attributes().flatten().map(|a| a.key).collect();
-    keys.push(SECOND);
+    let keys: Vec<_> = tag.attributes().flatten().map(|a| a.key).collect();
     let mut memory = Memory::<120, 5>::zeros();
     let mut bound = 0;
     let count = allocations(|| {
@@ -193,14 +190,10 @@ fn scopes() {
                 .count();
             let name = resolver.resolve_element(tag.name()).0;
             bound += usize::from(matches!(name, ResolveResult::Bound(_)));
-            let names = resolver.resolve_all(&tag, &keys).with_second_colon();
-            bound += names.filter(|name| name.2 == Some(5)).count();
-            let (_, _, second) = resolver.resolve_attribute_with_second_colon(SECOND);
-            bound += second.unwrap_or_default();
             resolver.pop();
         }
         let resumed = NamespaceResolver::resume_in(&mut memory).unwrap();
         bound += resumed.bindings_of(0).count();
     });
-    assert_eq!((bound, count), (702 + 100 + 500, 0));
+    assert_eq!((bound, count), (602, 0));
 }

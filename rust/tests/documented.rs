@@ -579,27 +579,6 @@ mod scopes {
     }
 
     #[test]
-    fn what_follows_the_first_colon_is_the_local_name() {
-        let mut resolver = NamespaceResolver::default();
-        resolver.add(named("v"), Namespace("urn:b")).unwrap();
-        resolver.add(DEFAULT, Namespace("urn:a")).unwrap();
-        for (name, namespace, local) in [
-            ("v:a:b", bound("urn:b"), "a:b"),
-            ("v::", bound("urn:b"), ":"),
-            ("v:a:b:c", bound("urn:b"), "a:b:c"),
-            ("w:a:b", unknown("w"), "a:b"),
-            ("::", unknown(""), ":"),
-            (":a:", unknown(""), "a:"),
-        ] {
-            let answer = (namespace, LocalName::from(QName(name)));
-            assert_eq!(answer.1.into_inner(), local);
-            assert_eq!(resolver.resolve_element(QName(name)), answer);
-            assert_eq!(resolver.resolve_attribute(QName(name)), answer);
-            assert_eq!(resolver.resolve(QName(name), true), answer);
-        }
-    }
-
-    #[test]
     fn an_unknown_prefix_is_a_refusal_where_one_is_wanted() {
         let mut resolver = NamespaceResolver::default();
         resolver.add(named("v"), Namespace("urn:b")).unwrap();

@@ -646,28 +646,19 @@ fn nothing_at_all_everywhere() {
 
 #[test]
 fn all_names_of_a_tag() {
-    // where a second colon is, by Rust's own search
-    let second = |name: &str| name.match_indices(':').nth(1).map(|(at, _)| at);
     let declared = "p:a xmlns='urn:a' xmlns:p='urn:p' xmlns:q='' xmlns:w='urn:w'";
     let mut resolver = NamespaceResolver::default();
     resolver
         .push(&BytesStart::from_content(declared, 3))
         .unwrap();
     // each with a prefix, and without: the default is for the tag's own name alone
-    let [others, owns] = [
-        ["w:elsewhere", "elsewhere", "w:else:where"],
-        ["p:a", "a", "q:a:b"],
-    ];
-    for (own, other) in [(0, 0), (0, 1), (1, 0), (1, 1), (0, 2), (2, 0), (2, 2)] {
+    let [others, owns] = [["w:elsewhere", "elsewhere"], ["p:a", "a"]];
+    for (own, other) in [(0, 0), (0, 1), (1, 0), (1, 1)] {
         let (own, other) = (owns[own], others[other].to_string());
         for count in [0, 1, 2, 14, 15, 16, 17, 31, 32, 33, 200] {
-            // bound, unknown and without a prefix, each with one colon more and without
-            let names = [
-                "k", "p:k", "q:k", "r:k", "xml:k", ":k", "xmlns:k", "p:", "p:k:", "r:k:k:", "::",
-                "xml:kk:k", "q:k:k",
-            ];
+            let names = ["k", "p:k", "q:k", "r:k", "xml:k", ":k", "xmlns:k", "p:"];
             let content: String = (0..count)
-                .map(|n| format!(" {}{n}=''", names[n % names.len()]))
+                .map(|n| format!(" {}{n}=''", names[n % 8]))
                 .collect();
             let tag = BytesStart::from_content(format!("{own}{content}"), own.len());
             let mut keys: Vec<_> = tag.attributes().map(|a| a.unwrap().key).collect();
@@ -680,16 +671,7 @@ fn all_names_of_a_tag() {
                 wanted.extend(keys.iter().map(|key| resolver.resolve_attribute(*key)));
                 let all = resolver.resolve_all(&tag, &keys);
                 assert_eq!(all.len(), wanted.len());
-                let told = all.clone().with_second_colon();
-                assert_eq!(told.len(), wanted.len());
                 assert_eq!(all.collect::<Vec<_>>(), wanted);
-                let (answers, seconds): (Vec<_>, Vec<_>) = told
-                    .map(|(namespace, local, second)| ((namespace, local), second))
-                    .unzip();
-                assert_eq!(answers, wanted);
-                let names = [tag.name()].into_iter().chain(keys.iter().copied());
-                let due: Vec<_> = names.map(|name| second(name.into_inner())).collect();
-                assert_eq!(seconds, due);
             }
         }
     }

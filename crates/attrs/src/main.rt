@@ -6,6 +6,8 @@
 //
 // At most 65,536 bytes are read; all of them are the tag, a line end too. The count comes first, so the tag is read twice,
 // 256 answers at a time: once to count them, once to show them.
+#![tactic(auto)]
+
 ghost use Rattle.std.specs.Prelude.{◌≡◌, ◌+◌, ◌≤◌, length};
 ghost use Rattle.tag_step.specs.Run.{answers_of};
 ghost use Rattle.attrs.specs.Count.{AttrsMemory, attrs_opened, attrs_answers};

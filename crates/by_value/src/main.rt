@@ -1,5 +1,7 @@
 // Reads a catalogue tag with the step by value, once for each byte of standard input, and prints how many answers it has.
 // `./bench --by-value` times it; nothing stands on it.
+#![tactic(auto)]
+
 use tag_step::{Answer, IterState};
 
 // How many answers the tag has, the end not counted. Each takes a byte of the tag at least.

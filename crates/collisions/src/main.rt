@@ -5,6 +5,8 @@
 //
 // Its input has names that have one hash of 32 bits, and such as have one hash of 8 bits. `stdout` has what is due; tests/collisions
 // runs the same code with the hash cut to 8 bits, and the answers are the same.
+#![tactic(auto)]
+
 use tag_batch::Batch;
 use tag_keys::CAPACITY;
 use tag_step::{Place, Standing};

@@ -1,6 +1,8 @@
 // An iterator in a caller's memory: beside the three tables of recorded keys it is four numbers, the kind of its place (0
 // done, 1 next, 2 skip value, 3 skip from `=`), the position, how many keys are recorded, and why a batch stopped, which is
 // only written. What the exports that take such an iterator share.
+#![tactic(auto)]
+
 ghost use Rattle.std.specs.Prelude.{◌≡◌};
 ghost use Rattle.export_cursor.specs.Cursor.{place_from, kind_of, position_of, same_place, settled_of};
 

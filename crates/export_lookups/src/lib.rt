@@ -1,21 +1,21 @@
 // What the static library exports of a resolver to ask it, for Rust or C to link. Each function hands what it is lent on to the
 // crate that has the rule, and answers by numbers; none asks anything of its caller. A slice passes as pointer and length, an
 // array of fixed length as its pointer alone.
-ghost use Rattle.std.specs.Prelude.{◌≡◌, length};
+#![tactic(auto)]
+
+ghost use Rattle.std.specs.Prelude.{◌≡◌};
 ghost use Rattle.scope_table.specs.Lent.{lent};
-ghost use Rattle.name.specs.declared.Colon.TheVariants.{Nowhere};
-ghost use Rattle.scope_lookup.specs.Lookup.{with_colon, resolved_name_of};
+ghost use Rattle.scope_lookup.specs.Lookup.{resolved_numbers, resolve_of};
 ghost use Rattle.scope_lookup.specs.declared.Resolved.TheVariants as Found;
 ghost use Rattle.scope_listing.specs.Listing.{listing, bindings_of, bindings_at_of};
 ghost use Rattle.scope_listing.specs.declared.Listed.TheVariants as Shown;
-ghost use Rattle.export_memory.specs.Boundary.{head_in, asked};
-ghost use Rattle.export_lookups.specs.Names.{told_by};
+ghost use Rattle.export_memory.specs.Boundary.{head_in, asked, ask_in};
 ghost use Rattle.export_lookups.specs.Listings.{listed_by};
 
 use scope_listing::Listing;
 
 // What a name resolves to: `scope_lookup::resolve_in`. 0 Unbound, 1 Bound with the URI's bounds in the text, 2 Unknown with the
-// prefix's bounds in the name, each with the place of the name's second colon, or the name's length; 20, 99.
+// prefix's bounds in the name, 20, 99.
 #[unsafe(no_mangle)]
 pub extern "C" fn mz_resolve<'t, 'n>(
     text: &'t [u8],
@@ -23,21 +23,15 @@ pub extern "C" fn mz_resolve<'t, 'n>(
     head: &'t [usize; 4],
     name: &'n [u8],
     use_default: bool,
-    detail: &mut [usize; 3],
+    detail: &mut [usize; 2],
 ) -> usize
     ensures { asked result detail.new
-        ≡ told_by (length name.now)
-        (lent (with_colon Found.WrongLength Nowhere) (resolved_name_of name.now use_default) text.now records.now (head_in head.now))
+        ≡ ask_in (resolved_numbers (lent Found.WrongLength (resolve_of name.now use_default) text.now records.now (head_in head.now)))
         detail.old }
 {
     let h = export_memory::head_from(head);
     let found = scope_lookup::resolve_in(text, records, h, name, use_default);
-    let resolved = found.resolved;
-    let told = scope_lookup::resolved_numbers(resolved);
-    detail[0] = told.first;
-    detail[1] = told.second;
-    detail[2] = scope_lookup::second_number(found, name.len());
-    told.number
+    export_memory::tell(detail, scope_lookup::resolved_numbers(found))
 }
 
 // Writes what a listing shows, and gives its number.

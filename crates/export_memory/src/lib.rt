@@ -1,15 +1,17 @@
 // What all exports on a lent resolver share, whether they change it or ask it: its head stands in four numbers, and an answer is
 // a number with its values in a lent array. Both arrays have a fixed length and pass by their pointers alone.
+#![tactic(auto)]
+
 ghost use Rattle.std.specs.Prelude.{◌≡◌, set};
 ghost use Rattle.scope_table.specs.Answer.{change_numbers};
 ghost use Rattle.export_memory.specs.Boundary.{head_in, head_after, code_of, asked, ask_in};
 
 use scope_table::{Head, Outcome, Told};
 
-// The numbers of a head, and of a detail that does for every answer but a listing's: one that has fewer values writes the first.
+// The numbers of a head, and of the values that an answer has.
 pub const HEAD: usize = 4;
 
-pub const DETAIL: usize = 3;
+pub const DETAIL: usize = 2;
 
 // The head that stands in four numbers.
 pub fn head_from(head: &[usize; 4]) -> Head

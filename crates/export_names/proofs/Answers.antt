@@ -6,14 +6,15 @@ use mathlib.Core.List.{List}
 use native.Mathlib.Omega.{arith}
 use lib.Dec.{ltb}
 use lib.ListN.{length, drop, get_or, get_or-append}
+use Rattle.scan.specs.Bytes.{inside}
 use Rattle.scan.specs.Lists.{over, list_to}
 use Rattle.scan.proofs.Lists.{list_length, list_at}
 use Rattle.scope_table.specs.Table.{valid_of}
 use Rattle.scope_table.specs.Answer.{told_of}
 use Rattle.scope_table.specs.declared.NamespaceResolver.{NamespaceResolver}
-use Rattle.scope_lookup.specs.Lookup.{resolved_numbers, resolve_of, resolved_name_of, second_number}
+use Rattle.scope_lookup.specs.Lookup.{resolved_numbers, resolve_of}
 use Rattle.export_memory.specs.Boundary.{code_of}
-use Rattle.export_names.specs.Names.{Names, nth_name, nth_of, nth_second, written_of, many_of}
+use Rattle.export_names.specs.Names.{Names, nth_of, written_of, many_of}
 
 -- What is written at k.
 
@@ -22,18 +23,13 @@ unfolding over
 written_at d f n k h =
     get_or-append (list_to f n) (drop (0 + length (list_to f n)) d) 0 k (omega (arith, list_length f n)) ∙ list_at f n k 0 h
 
-module _ (x : NamespaceResolver) (good : valid_of x ≡ true) (tag from to : List ℕ) (elements : ℕ) (kinds begins ends seconds : List ℕ) where
+module _ (x : NamespaceResolver) (good : valid_of x ≡ true) (tag from to : List ℕ) (elements : ℕ) (kinds begins ends : List ℕ) where
   abbrev after : Names
-  after = many_of tag from to elements kinds begins ends seconds x
+  after = many_of tag from to elements kinds begins ends x
 
   -- what a call for name k alone answers
   abbrev alone : ℕ → List ℕ
-  alone k = resolved_numbers (resolve_of (nth_name tag from to k) (ltb k elements) x)
-
-  -- and tells of its second colon
-  abbrev second_alone : ℕ → ℕ
-  second_alone k =
-      second_number (length (nth_name tag from to k)) (resolved_name_of (nth_name tag from to k) (ltb k elements) x)
+  alone k = resolved_numbers (resolve_of (inside tag (get_or from k 0) (get_or to k 0)) (ltb k elements) x)
 
   pub names_answered : after.result ≡ 0
   unfolding many_of written_of
@@ -53,7 +49,3 @@ module _ (x : NamespaceResolver) (good : valid_of x ≡ true) (tag from to : Lis
 
   pub bounds_as_alone : (k : ℕ) → k < length from → (get_or after.begins k 0 ≡ get_or (alone k) 1 0) × (get_or after.ends k 0 ≡ get_or (alone k) 2 0)
   bounds_as_alone k h = (begin_at_lem k h, end_at k h)
-
-  pub second_as_alone : (k : ℕ) → k < length from → get_or after.seconds k 0 ≡ second_alone k
-  unfolding many_of written_of nth_second
-  second_as_alone k h = rw good (written_at seconds (nth_second tag from to elements x) (length from) k h)

@@ -49,40 +49,36 @@ part_next d now f n i v p h e =
       holds = ap (λ (t : List ℕ). set t i v) p.holds ∙ ap (set (over d 0 (list_to f i)) i) e ∙ write_next d f i (omega arith);
     }
 
--- The four arrays of the answers, with the first i of n.
-pub record Filled (f : ℕ → Told) (g : ℕ → ℕ) (n : ℕ) (kinds₀ begins₀ ends₀ seconds₀ kinds begins ends seconds : List ℕ) (i : ℕ) : Type 0 where
+-- The three arrays of the answers, with the first i of n.
+pub record Filled (f : ℕ → Told) (n : ℕ) (kinds₀ begins₀ ends₀ kinds begins ends : List ℕ) (i : ℕ) : Type 0 where
   pub most : i ≤ n
   pub kinds_part : Part kinds₀ kinds (λ j. (f j).number) n i
   pub begins_part : Part begins₀ begins (λ j. (f j).first) n i
   pub ends_part : Part ends₀ ends (λ j. (f j).second) n i
-  pub seconds_part : Part seconds₀ seconds g n i
 
-module _ (f : ℕ → Told) (g : ℕ → ℕ) (n : ℕ) (kinds₀ begins₀ ends₀ seconds₀ : List ℕ) where
-  pub filled_none : length kinds₀ ≡ n → length begins₀ ≡ n → length ends₀ ≡ n → length seconds₀ ≡ n → Filled f g n kinds₀ begins₀ ends₀ seconds₀ kinds₀ begins₀ ends₀ seconds₀ 0
-  filled_none k b e s =
+module _ (f : ℕ → Told) (n : ℕ) (kinds₀ begins₀ ends₀ : List ℕ) where
+  pub filled_none : length kinds₀ ≡ n → length begins₀ ≡ n → length ends₀ ≡ n → Filled f n kinds₀ begins₀ ends₀ kinds₀ begins₀ ends₀ 0
+  filled_none k b e =
       record {
         most = omega arith;
         kinds_part = part_none kinds₀ (λ j. (f j).number) n k;
         begins_part = part_none begins₀ (λ j. (f j).first) n b;
         ends_part = part_none ends₀ (λ j. (f j).second) n e;
-        seconds_part = part_none seconds₀ g n s;
       }
 
-  module _ (kinds begins ends seconds : List ℕ) (i : ℕ) (p : Filled f g n kinds₀ begins₀ ends₀ seconds₀ kinds begins ends seconds i) where
-    pub filled_next : i < n → (t : Told) → t ≡ f i → (s : ℕ) → s ≡ g i →
-        Filled f g n kinds₀ begins₀ ends₀ seconds₀ (set kinds i t.number) (set begins i t.first) (set ends i t.second) (set seconds i s) (i + 1)
-    filled_next h t e s v =
+  module _ (kinds begins ends : List ℕ) (i : ℕ) (p : Filled f n kinds₀ begins₀ ends₀ kinds begins ends i) where
+    pub filled_next : i < n → (t : Told) → t ≡ f i → Filled f n kinds₀ begins₀ ends₀ (set kinds i t.number) (set begins i t.first) (set ends i t.second) (i + 1)
+    filled_next h t e =
         record {
           most = omega arith;
           kinds_part = part_next kinds₀ kinds (λ j. (f j).number) n i t.number p.kinds_part h (ap (λ (x : Told). x.number) e);
           begins_part = part_next begins₀ begins (λ j. (f j).first) n i t.first p.begins_part h (ap (λ (x : Told). x.first) e);
           ends_part = part_next ends₀ ends (λ j. (f j).second) n i t.second p.ends_part h (ap (λ (x : Told). x.second) e);
-          seconds_part = part_next seconds₀ seconds g n i s p.seconds_part h v;
         }
 
-    pub filled_all : n ≤ i → names 0 kinds begins ends seconds ≡ written_of f g n kinds₀ begins₀ ends₀ seconds₀
+    pub filled_all : n ≤ i → names 0 kinds begins ends ≡ written_of f n kinds₀ begins₀ ends₀
     unfolding written_of
     filled_all h =
         let l : i ≤ n = p.most in
         let z : i ≡ n = omega arith in
-        rw (p.kinds_part.holds, p.begins_part.holds, p.ends_part.holds, p.seconds_part.holds, z)
+        rw (p.kinds_part.holds, p.begins_part.holds, p.ends_part.holds, z)

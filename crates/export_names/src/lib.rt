@@ -1,5 +1,7 @@
 // What the static library exports to look up all the names of a tag in one call, for Rust or C to link. It stands apart from
 // the other calls that ask a resolver, so that the lookup has one caller here and is compiled into the loop over the names.
+#![tactic(auto)]
+
 ghost use Rattle.std.specs.Prelude.{◌≡◌};
 ghost use Rattle.export_names.specs.Names.{alike_of, names, many_in};
 
@@ -12,9 +14,8 @@ fn alike<'n>(
     kinds: &'n [usize],
     begins: &'n [usize],
     ends: &'n [usize],
-    seconds: &'n [usize],
 ) -> bool
-    ensures { result ≡ alike_of from.now to.now kinds.now begins.now ends.now seconds.now }
+    ensures { result ≡ alike_of from.now to.now kinds.now begins.now ends.now }
 {
     if to.len() != from.len() {
         return false;
@@ -25,15 +26,12 @@ fn alike<'n>(
     if begins.len() != from.len() {
         return false;
     }
-    if ends.len() != from.len() {
-        return false;
-    }
-    seconds.len() == from.len()
+    ends.len() == from.len()
 }
 
 // The names of a tag, all by one test of the resolver. Name k is the tag's bytes from `from[k]` up to `to[k]`, and the first
-// `elements` of them want the default. What `mz_resolve` would answer for it goes to `kinds[k]`, the bounds to `begins[k]` and
-// `ends[k]`; to `seconds[k]` goes where its second colon is, an index in the name, or the name's length. 0, 20, 99.
+// `elements` of them want the default. What `mz_resolve` would answer for it goes to `kinds[k]`, and the bounds to `begins[k]`
+// and `ends[k]`. 0, 20, 99.
 #[unsafe(no_mangle)]
 pub extern "C" fn mz_resolve_all<'t, 'n>(
     text: &'t [u8],
@@ -46,13 +44,12 @@ pub extern "C" fn mz_resolve_all<'t, 'n>(
     kinds: &mut [usize],
     begins: &mut [usize],
     ends: &mut [usize],
-    seconds: &mut [usize],
 ) -> usize
-    ensures { names result kinds.new begins.new ends.new seconds.new
-        ≡ many_in tag.now from.now to.now elements kinds.old begins.old ends.old seconds.old
+    ensures { names result kinds.new begins.new ends.new
+        ≡ many_in tag.now from.now to.now elements kinds.old begins.old ends.old
         text.now records.now head.now }
 {
-    if !alike(from, to, kinds, begins, ends, seconds) {
+    if !alike(from, to, kinds, begins, ends) {
         let wrong = Form::WrongLength;
         return wrong.number();
     }
@@ -65,13 +62,11 @@ pub extern "C" fn mz_resolve_all<'t, 'n>(
     let mut i = 0;
     while i < from.len() {
         let name = scan::inside(tag, from[i], to[i]);
-        let found = scope_lookup::resolved_among(text, records, count, name, i < elements);
-        let resolved = found.resolved;
-        let told = scope_lookup::resolved_numbers(resolved);
+        let found = scope_lookup::name_among(text, records, count, name, i < elements);
+        let told = scope_lookup::resolved_numbers(found);
         kinds[i] = told.number;
         begins[i] = told.first;
         ends[i] = told.second;
-        seconds[i] = scope_lookup::second_number(found, name.len());
         i += 1;
     }
     0

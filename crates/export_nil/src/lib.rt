@@ -1,6 +1,8 @@
 // What the static library exports of what stands on both the iterator and the resolver: `has_nil`; and what one value says.
 // Each function hands what it is lent on to the crate that has the rule, and answers by a number; none asks anything of
 // its caller.
+#![tactic(auto)]
+
 ghost use Rattle.std.specs.Prelude.{◌≡◌};
 ghost use Rattle.tag_parts.specs.Parts.{truth_of, truth_number};
 ghost use Rattle.export_nil.specs.Search.{nil_end, has_nil_by};

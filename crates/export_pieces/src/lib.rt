@@ -4,6 +4,8 @@
 // A reader in a caller's memory is its text, the three key tables, and nine numbers: the kind of the place (0 done, 1 next, 2 skip
 // value, 3 skip from `=`), its position, how many keys are recorded, why it stopped, how many bytes are held, whether the tag is
 // finished (0 is no), the phase, and the bounds of the key that is under way.
+#![tactic(auto)]
+
 ghost use Rattle.std.specs.Prelude.{◌≡◌};
 ghost use Rattle.export_pieces.specs.Pieces.{phase_from, phase_kind, phase_start, phase_end, phase_put, cursor_in, piece_end, mz_piece_of, finish_end, mz_finish_of, answers_end, numbers_left, mz_take_of};
 ghost use Rattle.export_cursor.specs.Cursor.{settled_of};

@@ -9,7 +9,7 @@ use Rattle.scope_table.specs.Table.{TEXT, RECORDS}
 -- of a record, of a head, of a detail and of a listing's detail; bytes of a number and its alignment; bytes of a hash; numbers of a reader in pieces
 -- and the bytes that it holds.
 abbrev pub layout : List ℕ
-layout = capacity ∷ 4 ∷ 5 ∷ TEXT ∷ RECORDS ∷ ROW ∷ 4 ∷ 3 ∷ 5 ∷ 8 ∷ 8 ∷ 4 ∷ 9 ∷ hold ∷ []
+layout = capacity ∷ 4 ∷ 5 ∷ TEXT ∷ RECORDS ∷ ROW ∷ 4 ∷ 2 ∷ 5 ∷ 8 ∷ 8 ∷ 4 ∷ 9 ∷ hold ∷ []
 
 -- one of them, and 0 past the last
 unfoldable pub layout_of : ℕ → ℕ

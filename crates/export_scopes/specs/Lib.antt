@@ -1,3 +1,3 @@
-pub mod Declared
+pub mod OneDeclaration
 pub mod Fresh
 pub mod Layout

@@ -1,6 +1,8 @@
 // What the static library exports of a resolver to change it, for Rust or C to link. Each function hands what it is lent on to
 // the crate that has the rule, and answers by numbers; none asks anything of its caller. A slice passes as pointer and length,
 // an array of fixed length as its pointer alone.
+#![tactic(auto)]
+
 ghost use Rattle.std.specs.Prelude.{◌≡◌, []};
 ghost use Rattle.scope_table.specs.Lent.{lent_of};
 ghost use Rattle.scope_change.specs.Change.{level_of};
@@ -8,7 +10,7 @@ ghost use Rattle.scope_declare.specs.Declare.{add_of, pop_of};
 ghost use Rattle.scope_push.specs.Push.{push_of};
 ghost use Rattle.export_memory.specs.Boundary.{crossed, change_in};
 ghost use Rattle.export_scopes.specs.Layout.{layout_of};
-ghost use Rattle.export_scopes.specs.Declared.{declared_by};
+ghost use Rattle.export_scopes.specs.OneDeclaration.{declared_by};
 ghost use Rattle.export_scopes.specs.Fresh.{fresh_by};
 
 use export_memory::{DETAIL, HEAD};

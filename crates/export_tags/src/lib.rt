@@ -1,7 +1,9 @@
 // What the static library exports of names and tags, for Rust or C to link. Each function hands
 // its slices on to the crate that has the rule, and answers by a number or a bool; none asks anything of its caller.
+#![tactic(auto)]
+
 ghost use Rattle.std.specs.Prelude.{◌≡◌};
-ghost use Rattle.name.specs.Split.{colon_at, second_at};
+ghost use Rattle.name.specs.Split.{colon_at};
 ghost use Rattle.name.specs.Reserved.{is_xml, is_xmlns};
 ghost use Rattle.name.specs.Declares.{declares_of, declares_number};
 ghost use Rattle.name.specs.Verdict.{verdict_of, verdict_number};
@@ -19,14 +21,6 @@ pub extern "C" fn mz_split(name: &[u8]) -> usize
     ensures { result ≡ colon_at name.now }
 {
     name::colon_at(name)
-}
-
-// The index of the first colon behind that one, or the length where there is none.
-#[unsafe(no_mangle)]
-pub extern "C" fn mz_second_colon(name: &[u8]) -> usize
-    ensures { result ≡ second_at name.now }
-{
-    name::second_at(name)
 }
 
 // What a name declares: 0 nothing, 1 the default, 2 a prefix, which is the name from index 6 on.

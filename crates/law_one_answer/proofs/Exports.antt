@@ -26,7 +26,6 @@ use Rattle.lines.specs.contracts.put_lines as lines·put-lines
 use Rattle.lines.specs.contracts.answers as lines·answers
 use Rattle.lines.specs.contracts.page as lines·page
 use Rattle.export_tags.specs.contracts.mz_split as export-tags·mz-split
-use Rattle.export_tags.specs.contracts.mz_second_colon as export-tags·mz-second-colon
 use Rattle.export_tags.specs.contracts.mz_declares as export-tags·mz-declares
 use Rattle.export_tags.specs.contracts.mz_is_xml as export-tags·mz-is-xml
 use Rattle.export_tags.specs.contracts.mz_is_xmlns as export-tags·mz-is-xmlns
@@ -90,9 +89,6 @@ module _ {M : Type 1} {𝓤 : Ura M} (𝓛 : Logic 𝓤) (mem : Memory → SProp
   pub export_tags_mz_split : Settled 𝓤 export-tags·mz-split.ended (export-tags·mz-split.clauses 𝓛 mem run)
   export_tags_mz_split κs a g y z = alone 𝓤 _ y z refl
 
-  pub export_tags_mz_second_colon : Settled 𝓤 export-tags·mz-second-colon.ended (export-tags·mz-second-colon.clauses 𝓛 mem run)
-  export_tags_mz_second_colon κs a g y z = alone 𝓤 _ y z refl
-
   pub export_tags_mz_declares : Settled 𝓤 export-tags·mz-declares.ended (export-tags·mz-declares.clauses 𝓛 mem run)
   export_tags_mz_declares κs a g y z = alone 𝓤 _ y z refl
 
@@ -148,7 +144,7 @@ module _ {M : Type 1} {𝓤 : Ura M} (𝓛 : Logic 𝓤) (mem : Memory → SProp
   export_lookups_mz_binding_of κs a g y z = read_off 𝓤 (λ (x : Asked). (x.result, (tt, (tt, (tt, (tt, (tt, (x.detail, tt))))))))
 
   pub export_names_mz_resolve_all : Settled 𝓤 export-names·mz-resolve-all.ended (export-names·mz-resolve-all.clauses 𝓛 mem run)
-  export_names_mz_resolve_all κs a g y z = read_off 𝓤 (λ (x : Names). (x.result, (tt, (tt, (tt, (tt, (tt, (tt, (tt, (x.kinds, (x.begins, (x.ends, (x.seconds, tt)))))))))))))
+  export_names_mz_resolve_all κs a g y z = read_off 𝓤 (λ (x : Names). (x.result, (tt, (tt, (tt, (tt, (tt, (tt, (tt, (x.kinds, (x.begins, (x.ends, tt))))))))))))
 
   pub export_nil_mz_as_bool : Settled 𝓤 export-nil·mz-as-bool.ended (export-nil·mz-as-bool.clauses 𝓛 mem run)
   export_nil_mz_as_bool κs a g y z = alone 𝓤 _ y z refl

@@ -12,11 +12,10 @@ use Rattle.law_one_answer.specs.Settled.{Settled, SettledAs}
 use Rattle.scope_table.specs.Answer.{changed, numbered_change}
 use Rattle.scope_table.specs.declared.Changed.{Changed}
 use Rattle.scope_table.proofs.Answers.{change_apart}
-use Rattle.scope_lookup.specs.Lookup.{resolved_numbers, name_numbers, namespace_numbers}
+use Rattle.scope_lookup.specs.Lookup.{resolved_numbers, namespace_numbers}
 use Rattle.scope_lookup.specs.declared.Resolved.{Resolved}
-use Rattle.scope_lookup.specs.declared.ResolvedName.{ResolvedName}
 use Rattle.scope_lookup.specs.declared.Namespace.{Namespace}
-use Rattle.scope_lookup.proofs.Numbers.{resolved_apart, name_apart, namespace_apart}
+use Rattle.scope_lookup.proofs.Numbers.{resolved_apart, namespace_apart}
 use Rattle.scope_listing.specs.Listing.{numbered_listing}
 use Rattle.scope_listing.specs.declared.Listing.{Listing}
 use Rattle.scope_listing.proofs.Numbers.{listed_apart, listing_apart}
@@ -59,7 +58,6 @@ use Rattle.scope_declare.specs.contracts.set_max_namespace_bindings as scope-dec
 use Rattle.scope_push.specs.contracts.push_in as scope-push·push-in
 use Rattle.scope_push.specs.contracts.push as scope-push·push
 use Rattle.scope_lookup.specs.contracts.name_among as scope-lookup·name-among
-use Rattle.scope_lookup.specs.contracts.resolved_among as scope-lookup·resolved-among
 use Rattle.scope_lookup.specs.contracts.resolve_prefix_in as scope-lookup·resolve-prefix-in
 use Rattle.scope_lookup.specs.contracts.resolve_in as scope-lookup·resolve-in
 use Rattle.scope_lookup.specs.contracts.resolve as scope-lookup·resolve
@@ -71,7 +69,6 @@ use Rattle.scope_lookup.specs.contracts.prefix_part as scope-lookup·prefix-part
 use Rattle.scope_lookup.specs.contracts.local_part as scope-lookup·local-part
 use Rattle.scope_lookup.specs.contracts.namespace_of as scope-lookup·namespace-of
 use Rattle.scope_lookup.specs.contracts.resolved_numbers as scope-lookup·resolved-numbers
-use Rattle.scope_lookup.specs.contracts.second_number as scope-lookup·second-number
 use Rattle.scope_listing.specs.contracts.listed_numbers as scope-listing·listed-numbers
 use Rattle.scope_listing.specs.contracts.bindings_in as scope-listing·bindings-in
 use Rattle.scope_listing.specs.contracts.bindings_of_in as scope-listing·bindings-of-in
@@ -196,9 +193,6 @@ module _ {M : Type 1} {𝓤 : Ura M} (𝓛 : Logic 𝓤) (mem : Memory → SProp
   pub scope_lookup_name_among : Settled 𝓤 scope-lookup·name-among.ended (scope-lookup·name-among.clauses 𝓛 mem run)
   scope_lookup_name_among κs a g y z = alone 𝓤 _ y z refl
 
-  pub scope_lookup_resolved_among : Settled 𝓤 scope-lookup·resolved-among.ended (scope-lookup·resolved-among.clauses 𝓛 mem run)
-  scope_lookup_resolved_among κs a g y z = alone 𝓤 _ y z refl
-
   pub scope_lookup_resolve_prefix_in : Settled 𝓤 scope-lookup·resolve-prefix-in.ended (scope-lookup·resolve-prefix-in.clauses 𝓛 mem run)
   scope_lookup_resolve_prefix_in κs a g y z = alone 𝓤 _ y z refl
 
@@ -206,13 +200,13 @@ module _ {M : Type 1} {𝓤 : Ura M} (𝓛 : Logic 𝓤) (mem : Memory → SProp
   scope_lookup_resolve_in κs a g y z = alone 𝓤 _ y z refl
 
   pub scope_lookup_resolve : Settled 𝓤 scope-lookup·resolve.ended (scope-lookup·resolve.clauses 𝓛 mem run)
-  scope_lookup_resolve κs a g y z = by_numbers 𝓤 name_numbers name_apart (λ (x : ResolvedName). (x, y.1)) y.0 z.0
+  scope_lookup_resolve κs a g y z = by_numbers 𝓤 resolved_numbers resolved_apart (λ (x : Resolved). (x, y.1)) y.0 z.0
 
   pub scope_lookup_resolve_element : Settled 𝓤 scope-lookup·resolve-element.ended (scope-lookup·resolve-element.clauses 𝓛 mem run)
-  scope_lookup_resolve_element κs a g y z = by_numbers 𝓤 name_numbers name_apart (λ (x : ResolvedName). (x, y.1)) y.0 z.0
+  scope_lookup_resolve_element κs a g y z = by_numbers 𝓤 resolved_numbers resolved_apart (λ (x : Resolved). (x, y.1)) y.0 z.0
 
   pub scope_lookup_resolve_attribute : Settled 𝓤 scope-lookup·resolve-attribute.ended (scope-lookup·resolve-attribute.clauses 𝓛 mem run)
-  scope_lookup_resolve_attribute κs a g y z = by_numbers 𝓤 name_numbers name_apart (λ (x : ResolvedName). (x, y.1)) y.0 z.0
+  scope_lookup_resolve_attribute κs a g y z = by_numbers 𝓤 resolved_numbers resolved_apart (λ (x : Resolved). (x, y.1)) y.0 z.0
 
   pub scope_lookup_resolve_prefix : Settled 𝓤 scope-lookup·resolve-prefix.ended (scope-lookup·resolve-prefix.clauses 𝓛 mem run)
   scope_lookup_resolve_prefix κs a g y z = by_numbers 𝓤 resolved_numbers resolved_apart (λ (x : Resolved). (x, y.1)) y.0 z.0
@@ -231,9 +225,6 @@ module _ {M : Type 1} {𝓤 : Ura M} (𝓛 : Logic 𝓤) (mem : Memory → SProp
 
   pub scope_lookup_resolved_numbers : Settled 𝓤 scope-lookup·resolved-numbers.ended (scope-lookup·resolved-numbers.clauses 𝓛 mem run)
   scope_lookup_resolved_numbers κs a g y z = alone 𝓤 _ y z refl
-
-  pub scope_lookup_second_number : Settled 𝓤 scope-lookup·second-number.ended (scope-lookup·second-number.clauses 𝓛 mem run)
-  scope_lookup_second_number κs a g y z = alone 𝓤 _ y z refl
 
   pub scope_listing_listed_numbers : Settled 𝓤 scope-listing·listed-numbers.ended (scope-listing·listed-numbers.clauses 𝓛 mem run)
   scope_listing_listed_numbers κs a g y z = alone 𝓤 _ y z refl

@@ -2,3 +2,4 @@
 // 01's column "Leaves" row by row, that each answer moves reading on and that the end stays; and that quick-xml's branches
 // for a quote after a duplicate's `=` are not taken. Definitions (specs/) and theorems (proofs/) over those of `tag_step`; there
 // is no code here.
+#![tactic(auto)]

@@ -5,6 +5,8 @@
 //
 // `D`, `S`, `U` with the bounds of key and value, `B` with those of a bare key, `E` with a refusal's number and its values.
 // The definitions are in specs/Lines.antt.
+#![tactic(auto)]
+
 ghost use Rattle.std.specs.Prelude.{◌≡◌, ◌+◌, ◌*◌, ◌≤◌, length};
 ghost use Rattle.scan.specs.Lists.{over};
 ghost use Rattle.tag_step.specs.Next.{stands_at};
@@ -153,7 +155,7 @@ pub fn answers(left: Batch) -> usize
 }
 
 // What a page leaves: as `tag_batch::read_batch` does, and how long the text is.
-#[derive(Drop)]
+#[derive(Clone, Copy)]
 pub struct Paged {
     pub left: Batch,
     pub length: usize,

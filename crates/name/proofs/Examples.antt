@@ -6,7 +6,7 @@ use mathlib.Core.Path.{◌≡◌, refl}
 use mathlib.Core.List.{List, [], ◌∷◌, map}
 use Rattle.scan.specs.First.{first_from, first_to, first_of}
 use Rattle.scan.specs.Bytes.{bytes, bytes_from, same_bytes, is_byte}
-use Rattle.name.specs.Split.{colon_at, has_colon, colon_of, prefix_of, local_at, local_of, second_at, second_of}
+use Rattle.name.specs.Split.{colon_at, has_colon, colon_of, prefix_of, local_at, local_of}
 use Rattle.name.specs.Reserved.{xml_prefix, xmlns_prefix, xml_uri, xmlns_uri, is_xml, is_xmlns, is_xml_uri, is_xmlns_uri}
 use Rattle.name.specs.Declares.{opening, is_named, declares_of, declared_prefix}
 use Rattle.name.specs.Bind.{reserved_bind}
@@ -20,43 +20,37 @@ use Rattle.name.specs.declared.NamedCheck.TheVariants.{Fine, AddsNothing, Invali
 use Rattle.name.specs.declared.Verdict.{Verdict}
 use Rattle.name.specs.declared.Verdict.TheVariants.{Yes, No, NoDeclaration}
 
--- what is said of one name: the first colon, the prefix, the local part, the second colon, what it declares, and the declared prefix
+-- what is said of one name: the first colon, the prefix, the local part, what it declares, and the declared prefix
 record Split : Type 0 where
   colon : Colon
   prefix : List ℕ
   local : List ℕ
-  second : Colon
   declares : PrefixDeclaration
   declared : List ℕ
 
 abbrev split_of : String → Split
-split_of name = record { colon = colon_of (bytes name); prefix = prefix_of (bytes name); local = local_of (bytes name); second = second_of (bytes name); declares = declares_of (bytes name); declared = declared_prefix (bytes name) }
+split_of name = record { colon = colon_of (bytes name); prefix = prefix_of (bytes name); local = local_of (bytes name); declares = declares_of (bytes name); declared = declared_prefix (bytes name) }
 
-abbrev splits : Colon → String → String → Colon → PrefixDeclaration → String → Split
-splits colon prefix local second declares declared = record { colon = colon; prefix = bytes prefix; local = bytes local; second = second; declares = declares; declared = bytes declared }
+abbrev splits : Colon → String → String → PrefixDeclaration → String → Split
+splits colon prefix local declares declared = record { colon = colon; prefix = bytes prefix; local = bytes local; declares = declares; declared = bytes declared }
 
 pub names_split :
-    map split_of ("" ∷ "a" ∷ ":a" ∷ "a:" ∷ "p:a" ∷ "a:b:c" ∷ "a:b:c:d" ∷ "a::" ∷ ":a:" ∷ "::" ∷ ":" ∷ "xmlns" ∷ "xmlns:" ∷ "xmlns:p" ∷ "xmlns:p:q" ∷ "xmlnsp" ∷ "xml:a" ∷ "Xmlns:p" ∷ [])
-    ≡ splits Nowhere "" "" Nowhere Nothing ""
-    ∷ splits Nowhere "" "a" Nowhere Nothing ""
-    ∷ splits (At 0) "" "a" Nowhere Nothing ""
-    ∷ splits (At 1) "a" "" Nowhere Nothing ""
-    ∷ splits (At 1) "p" "a" Nowhere Nothing ""
-    ∷ splits (At 1) "a" "b:c" (At 3) Nothing ""
-    ∷ splits (At 1) "a" "b:c:d" (At 3) Nothing ""
-    ∷ splits (At 1) "a" ":" (At 2) Nothing ""
-    ∷ splits (At 0) "" "a:" (At 2) Nothing ""
-    ∷ splits (At 0) "" ":" (At 1) Nothing ""
-    ∷ splits (At 0) "" "" Nowhere Nothing ""
-    ∷ splits Nowhere "" "xmlns" Nowhere Default ""
-    ∷ splits (At 5) "xmlns" "" Nowhere Named ""
-    ∷ splits (At 5) "xmlns" "p" Nowhere Named "p"
-    ∷ splits (At 5) "xmlns" "p:q" (At 7) Named "p:q"
-    ∷ splits Nowhere "" "xmlnsp" Nowhere Nothing ""
-    ∷ splits (At 3) "xml" "a" Nowhere Nothing ""
-    ∷ splits (At 5) "Xmlns" "p" Nowhere Nothing ""
+    map split_of ("" ∷ "a" ∷ ":a" ∷ "a:" ∷ "p:a" ∷ "a:b:c" ∷ "xmlns" ∷ "xmlns:" ∷ "xmlns:p" ∷ "xmlns:p:q" ∷ "xmlnsp" ∷ "xml:a" ∷ "Xmlns:p" ∷ [])
+    ≡ splits Nowhere "" "" Nothing ""
+    ∷ splits Nowhere "" "a" Nothing ""
+    ∷ splits (At 0) "" "a" Nothing ""
+    ∷ splits (At 1) "a" "" Nothing ""
+    ∷ splits (At 1) "p" "a" Nothing ""
+    ∷ splits (At 1) "a" "b:c" Nothing ""
+    ∷ splits Nowhere "" "xmlns" Default ""
+    ∷ splits (At 5) "xmlns" "" Named ""
+    ∷ splits (At 5) "xmlns" "p" Named "p"
+    ∷ splits (At 5) "xmlns" "p:q" Named "p:q"
+    ∷ splits Nowhere "" "xmlnsp" Nothing ""
+    ∷ splits (At 3) "xml" "a" Nothing ""
+    ∷ splits (At 5) "Xmlns" "p" Nothing ""
     ∷ []
-unfolding colon_of has_colon colon_at prefix_of local_of local_at second_of second_at declares_of declared_prefix is_named opening is_xmlns xmlns_prefix first_from first_to first_of is_byte same_bytes bytes bytes_from
+unfolding colon_of has_colon colon_at prefix_of local_of local_at declares_of declared_prefix is_named opening is_xmlns xmlns_prefix first_from first_to first_of is_byte same_bytes bytes bytes_from
 names_split = refl
 
 -- what is said of one declaration: by Namespaces 1.0, and by the rules on what is reserved (of the declared prefix, which

@@ -29,7 +29,7 @@ module _ (name : List ℕ) (at : ℕ) (e : at ≡ colon_at name) (h : at < lengt
   unfolding has_colon
   has = rw (← e) (lt-ltb at (length name) h)
 
-  colon_at_lem : At at ≡ colon_of name
+  pub colon_at_lem : At at ≡ colon_of name
   unfolding colon_of
   colon_at_lem = rw (has, ← e)
 
@@ -45,9 +45,9 @@ module _ (name : List ℕ) (at : ℕ) (e : at ≡ colon_at name) (h : at < lengt
   unfolding local_of
   local_at_lem = rw (← local_place)
 
-  pub parts_at : (second : Colon) → second ≡ second_of name → ◌≡◌ {A = Parts} (record { colon = At at; local = at + 1; second_colon = second }) (parts_of name)
+  pub parts_at : ◌≡◌ {A = Parts} (record { colon = At at; local = at + 1 }) (parts_of name)
   unfolding parts_of
-  parts_at second h = rw (← colon_at_lem, ← local_place, h)
+  parts_at = rw (← colon_at_lem, ← local_place)
 
 -- none
 module _ (name : List ℕ) (at : ℕ) (e : at ≡ colon_at name) (h : length name ≤ at) where
@@ -55,7 +55,7 @@ module _ (name : List ℕ) (at : ℕ) (e : at ≡ colon_at name) (h : length nam
   unfolding has_colon
   has_none = rw (← e) (le-ltb at (length name) h)
 
-  colon_nowhere : Nowhere ≡ colon_of name
+  pub colon_nowhere : Nowhere ≡ colon_of name
   unfolding colon_of
   colon_nowhere = rw has_none
 
@@ -75,13 +75,9 @@ module _ (name : List ℕ) (at : ℕ) (e : at ≡ colon_at name) (h : length nam
   unfolding second_at colon_at
   second_whole = rw (← local_whole)
 
-  second_nowhere : Nowhere ≡ second_of name
-  unfolding second_of
-  second_nowhere = rw (second_whole, ← e, le-ltb at (length name) h)
-
-  pub parts_none : ◌≡◌ {A = Parts} (record { colon = Nowhere; local = 0; second_colon = Nowhere }) (parts_of name)
+  pub parts_none : ◌≡◌ {A = Parts} (record { colon = Nowhere; local = 0 }) (parts_of name)
   unfolding parts_of
-  parts_none = rw (← colon_nowhere, ← local_whole, ← second_nowhere)
+  parts_none = rw (← colon_nowhere, ← local_whole)
 
 -- the second place of a colon is that of the first one in the local part
 pub second_place : (name : List ℕ) → second_in (is_byte 58) name ≡ second_at name

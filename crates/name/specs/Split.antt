@@ -49,6 +49,6 @@ second_at name = first_from (is_byte 58) name (local_at name)
 unfoldable pub second_of : List ℕ → Colon
 second_of name = pick (ltb (second_at name) (length name)) (At (second_at name)) Nowhere
 
--- both parts, as places, and whether the local part holds another colon
+-- both, as places
 unfoldable pub parts_of : List ℕ → Parts
-parts_of name = record { colon = colon_of name; local = local_at name; second_colon = second_of name }
+parts_of name = record { colon = colon_of name; local = local_at name }

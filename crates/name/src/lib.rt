@@ -3,6 +3,8 @@
 // Ports `QName`, `Prefix` and `PrefixDeclaration` of src/name.rs, and of `NamespaceResolver::add` the checks on a named
 // prefix. A name is the caller's slice, and a part of a name is a part of that slice. The reserved prefixes and URIs
 // stand here once each, as byte strings, in the four `is_` functions; specs/Reserved.antt has them as text.
+#![tactic(auto)]
+
 ghost use Rattle.std.specs.Prelude.{◌≡◌, ltb};
 ghost use Rattle.scan.specs.First.{pick};
 ghost use Rattle.name.specs.declared.Colon.TheVariants.{At, Nowhere};
@@ -12,26 +14,24 @@ ghost use Rattle.name.specs.Declares.{declares_of, declares_number, declared_pre
 ghost use Rattle.name.specs.Bind.{reserved_bind, named_numbers};
 ghost use Rattle.name.specs.Verdict.{verdict_named, verdict_default, verdict_of, verdict_number};
 
-// Where a colon of a name is: its first one, or its second. `:a` has a first at 0, so its prefix is there and empty; `a` has
-// none, and no prefix.
-#[derive(Drop)]
+// Where the first colon of a name is. `:a` has one at 0, so its prefix is there and empty; `a` has none, and no prefix.
+#[derive(Clone, Copy)]
 pub enum Colon {
     At(usize),
     Nowhere,
 }
 
 // Both parts of a name, as places in it. Where there is a colon the prefix is before it and the local part after it;
-// where there is none, `local` is 0. `second_colon` is the first colon of the local part.
-#[derive(Drop)]
+// where there is none, `local` is 0.
+#[derive(Clone, Copy)]
 pub struct Parts {
     pub colon: Colon,
     pub local: usize,
-    pub second_colon: Colon,
 }
 
 // What a name declares when an attribute has it: `Option<PrefixDeclaration>` of src/name.rs. The prefix of a `Named` one
 // is `declared_prefix` of the same name.
-#[derive(Drop)]
+#[derive(Clone, Copy)]
 pub enum PrefixDeclaration {
     // `a`, `xml`, `xmlnsa`
     Nothing,
@@ -56,7 +56,7 @@ impl PrefixDeclaration {
 
 // What the rules on reserved prefixes and URIs say of a named prefix and its value. The four refusals are those of
 // `NamespaceError`; the text that each holds there is the value in the first two, and the prefix in the last two.
-#[derive(Drop)]
+#[derive(Clone, Copy)]
 pub enum NamedCheck {
     // nothing reserved is touched: the binding is to be added
     Fine,
@@ -73,7 +73,7 @@ pub enum NamedCheck {
 }
 
 // Whether Namespaces 1.0 allows an attribute as a declaration.
-#[derive(Drop)]
+#[derive(Clone, Copy)]
 pub enum Verdict {
     Yes,
     No,
@@ -108,7 +108,11 @@ pub fn colon_at(name: &[u8]) -> usize
 pub fn index(name: &[u8]) -> Colon
     ensures { result ≡ colon_of name.now }
 {
-    colon_below(colon_at(name), name.len())
+    let at = colon_at(name);
+    if at < name.len() {
+        return Colon::At(at);
+    }
+    Colon::Nowhere
 }
 
 // The bytes before the first colon, none where there is no colon: `QName::prefix`, src/name.rs. Whether there is a
@@ -171,24 +175,20 @@ fn colon_below(at: usize, len: usize) -> Colon
     Colon::Nowhere
 }
 
-// Both parts and the second colon, found by one look at the name: `QName::decompose`, src/name.rs, which does not tell the
-// last.
+// Both parts, found by one look at the name: `QName::decompose`, src/name.rs.
 pub fn decompose(name: &[u8]) -> Parts
     ensures { result ≡ parts_of name.now }
 {
-    let colons = scan::twice_near(name, b':');
-    let at = colons.first;
+    let at = colon_at(name);
     if at < name.len() {
         Parts {
             colon: Colon::At(at),
             local: at + 1,
-            second_colon: colon_below(colons.second, name.len()),
         }
     } else {
         Parts {
             colon: Colon::Nowhere,
             local: 0,
-            second_colon: Colon::Nowhere,
         }
     }
 }

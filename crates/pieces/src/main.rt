@@ -7,6 +7,8 @@
 // Its word is how many bytes a piece has at most; a piece is what is there, also where that is less. At most 65,536 bytes are
 // read; all of them are the tag, a line end too. It works on memory that it lends to `tag_pieces::piece_in` and
 // `tag_takes::take_in`: nothing is copied but a piece, once.
+#![tactic(auto)]
+
 ghost use Rattle.std.specs.Prelude.{◌≤◌};
 
 use tag_keys::CAPACITY;
@@ -23,7 +25,7 @@ const NUMBERS: usize = 1280;
 const TEXT: usize = 27392;
 
 // The reader so far, how many answers were shown, and whether reading goes on.
-#[derive(Drop)]
+#[derive(Clone, Copy)]
 struct Shown {
     at: Cursor,
     answers: usize,

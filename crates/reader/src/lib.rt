@@ -2,6 +2,8 @@
 //
 // What it does is `piece_of`, `finish_of` and `take_of` of the crate `tag_pieces`, for every reader whatever. A call copies the
 // reader, which holds 65,536 bytes and the key tables: whoever reads much lends memory (`tag_pieces`, `tag_takes`).
+#![tactic(auto)]
+
 ghost use Rattle.std.specs.Prelude.{◌≡◌, true, not, ◌&&◌, ◌||◌, ◌≤◌, length, take, leb};
 ghost use Rattle.tag_keys.specs.Keys.{KeysIn};
 ghost use Rattle.tag_step.specs.Next.{keys_lent, good_of};

@@ -7,6 +7,8 @@
 //
 // Then what each says once the tag is finished, and of a reader that no reading leaves. `stdout` has what is due; tests/attrs_pieces
 // holds the answers against those of `attrs`.
+#![tactic(auto)]
+
 use tag_pieces::{Feeding, HOLD, Reader, Take, Taken};
 use tag_step::Answer;
 

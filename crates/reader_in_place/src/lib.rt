@@ -3,6 +3,8 @@
 // Each call is thin: the reader behind the reference goes to the call by value, the reader that comes back is put in its
 // place, and what it answers is handed on. So every rule stands once, with the calls by value (crate `reader`), and a refusal,
 // or more, leaves here what it leaves there.
+#![tactic(auto)]
+
 ghost use Rattle.std.specs.Prelude.{◌≡◌};
 ghost use Rattle.tag_pieces.specs.Reader.{feeding, took, piece_of, finish_of, take_of};
 ghost use Rattle.reader.specs.Numbers.{numbered_feeding, numbered_take};

@@ -1,13 +1,15 @@
 // What the programs have in common that hold answers against recorded ones: the numbers of a record, lower byte first, the
 // run through the records, and the lines that say how it went. Each program has its own records, and says by a `RecordStep` what
 // it makes of one. The definitions are in specs/Numbers.antt and specs/Run.antt.
+#![tactic(auto)]
+
 ghost use Rattle.std.specs.Prelude.{◌≡◌, ◌+◌, ◌*◌, ◌≤◌, ◌<◌, eqb, length};
 ghost use Rattle.scan.specs.Bytes.{same_bytes};
 ghost use Rattle.replay.specs.Numbers.{byte_at, two_at, twos_of};
 ghost use Rattle.replay.specs.Run.{begun_of, stopped_of, RunFits, after_of};
 
 // What stands at the front of some bytes.
-#[derive(Drop)]
+#[derive(Clone, Copy)]
 pub enum RecordStep {
     // a whole record of that many bytes, whose answers are ours; then what it adds to two counts, of names and of bindings
     Agrees(usize, usize, usize),
@@ -18,7 +20,7 @@ pub enum RecordStep {
 }
 
 // Where a run stops.
-#[derive(Drop)]
+#[derive(Clone, Copy)]
 pub enum RunEnd {
     All,
     Differs(usize),
@@ -26,7 +28,7 @@ pub enum RunEnd {
 }
 
 // A run: the place, what agreed before it, and how it ends. One that has stopped stands behind the last byte.
-#[derive(Drop)]
+#[derive(Clone, Copy)]
 pub struct Replayed {
     pub at: usize,
     pub records: usize,

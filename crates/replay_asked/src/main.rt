@@ -7,6 +7,8 @@
 //
 // The questions are those of `reply_to`. Each is asked twice: of a resolver and an iterator by value, and of those that a
 // form over references left. What is compared are numbers: each call has its own exact contract, and here none is repeated.
+#![tactic(auto)]
+
 ghost use Rattle.std.specs.Prelude.{◌≤◌, ◌≡◌, length};
 
 use replay::{RecordStep, Replayed, RunEnd};
@@ -16,7 +18,7 @@ use scope_table::NamespaceResolver;
 use tag_step::{IterState, Place};
 
 // An answer in numbers, with zeros behind them.
-#[derive(Drop)]
+#[derive(Clone, Copy)]
 struct Reply {
     code: usize,
     first: usize,
@@ -103,8 +105,7 @@ fn reply_to(
     let r = scope_of(carried, scope);
     if question == 0 {
         let found = scope_lookup::resolve(r, text, one);
-        let resolved = found.resolved;
-        return namespace_reply(scope_lookup::namespace_of(resolved));
+        return namespace_reply(scope_lookup::namespace_of(found));
     }
     if question == 1 {
         let found = scope_lookup::resolve_prefix(r, text, other, one);

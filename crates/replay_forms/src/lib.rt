@@ -4,6 +4,8 @@
 //
 // The borrow checker covers no function that lends a struct, or has a local of one that holds a reference: each one here
 // has a walk of its code under proofs/.
+#![tactic(auto)]
+
 ghost use Rattle.std.specs.Prelude.{◌≡◌, true, false};
 ghost use Rattle.tag_step.specs.Next.{next_of, opened};
 ghost use Rattle.scope_nil.specs.Nil.{has_nil_of};

@@ -32,27 +32,27 @@ module _ (name : List ℕ) {n : ℕ} (e : n ≡ declares_number (declares_of nam
 
 -- the record at the front
 module _ (rest : List ℕ) where
-  pub too_few : length rest < 11 → Cut ≡ name_record_of rest
+  pub too_few : length rest < 9 → Cut ≡ name_record_of rest
   unfolding name_record_of
-  too_few h = rw (lt-ltb (length rest) 11 h)
+  too_few h = rw (lt-ltb (length rest) 9 h)
 
-  pub name_cut : {n : ℕ} → 11 ≤ length rest → n ≡ two_at rest 0 → length rest - 11 < n → Cut ≡ name_record_of rest
+  pub name_cut : {n : ℕ} → 9 ≤ length rest → n ≡ two_at rest 0 → length rest - 9 < n → Cut ≡ name_record_of rest
   unfolding name_record_of
-  name_cut {n} a e b = rw (le-ltb (length rest) 11 a, ← e, lt-ltb (length rest - 11) n b)
+  name_cut {n} a e b = rw (le-ltb (length rest) 9 a, ← e, lt-ltb (length rest - 9) n b)
 
-  pub whole : {n : ℕ} {t : Bool} → 11 ≤ length rest → n ≡ two_at rest 0 → n ≤ length rest - 11 → t ≡ name_agrees (take (2 + n - 2) (drop 2 rest)) (take (length rest - (2 + n)) (drop (2 + n) rest)) → pick t (Agrees (11 + n) 0 0) Differs ≡ name_record_of rest
+  pub whole : {n : ℕ} {t : Bool} → 9 ≤ length rest → n ≡ two_at rest 0 → n ≤ length rest - 9 → t ≡ name_agrees (take (2 + n - 2) (drop 2 rest)) (take (length rest - (2 + n)) (drop (2 + n) rest)) → pick t (Agrees (9 + n) 0 0) Differs ≡ name_record_of rest
   unfolding name_record_of part
   whole {n} {t} a e b h =
       let g = rw (to_end (2 + n) rest) at h in
-      rw (le-ltb (length rest) 11 a, ← e, le-ltb (length rest - 11) n b, ← g)
+      rw (le-ltb (length rest) 9 a, ← e, le-ltb (length rest - 9) n b, ← g)
 
--- A record that agrees has at least eleven bytes, and they are all there.
+-- A record that agrees has at least nine bytes, and they are all there.
 pub passes : (rest : List ℕ) → Passes (name_record_of rest) (length rest)
 unfolding name_record_of
 passes rest =
-    passes_pick (ltb (length rest) 11) (λ t. passes_cut) (λ t.
-    passes_pick (ltb (length rest - 11) (two_at rest 0)) (λ u. passes_cut) (λ u.
+    passes_pick (ltb (length rest) 9) (λ t. passes_cut) (λ t.
+    passes_pick (ltb (length rest - 9) (two_at rest 0)) (λ u. passes_cut) (λ u.
     passes_pick (name_agrees (part rest 2 (2 + two_at rest 0)) (drop (2 + two_at rest 0) rest)) (λ v.
-    (let a = ltb-false (length rest) 11 t in
-    let b = ltb-false (length rest - 11) (two_at rest 0) u in
+    (let a = ltb-false (length rest) 9 t in
+    let b = ltb-false (length rest - 9) (two_at rest 0) u in
     passes_agrees (omega arith) (omega arith) (omega arith) (omega arith))) (λ v. passes_differs)))

@@ -2,19 +2,24 @@
 use Rattle.std.specs.Prelude.{ℕ, ◌+◌, ◌-◌, Bool, ◌&&◌, List, length, drop, eqb, ltb}
 use Rattle.scan.specs.First.{pick}
 use Rattle.scan.specs.Bytes.{part}
-use Rattle.name.specs.Split.{colon_of, prefix_of, colon_or, second_of}
+use Rattle.name.specs.Split.{colon_of, prefix_of}
 use Rattle.name.specs.Reserved.{is_xml, is_xmlns}
 use Rattle.name.specs.Declares.{declares_of, declares_number, declared_prefix}
 use Rattle.name.specs.declared.Colon.{Colon}
+use Rattle.name.specs.declared.Colon.TheVariants.{At, Nowhere}
 use Rattle.replay.specs.declared.RecordStep.{RecordStep}
 use Rattle.replay.specs.declared.RecordStep.TheVariants.{Agrees, Differs, Cut}
 use Rattle.replay.specs.declared.Replayed.{Replayed}
 use Rattle.replay.specs.Numbers.{byte_at, two_at}
 use Rattle.replay.specs.Run.{replay_each}
 
--- the index of a colon, 65,535 for none
-abbrev pub colon_number : Colon → ℕ
-colon_number colon = colon_or 65535 colon
+-- the index of the first colon, 65,535 for none
+abbrev pub numberOfColon : Colon → ℕ
+numberOfColon (At at) = at
+numberOfColon Nowhere = 65535
+
+abbrev pub colon_number : List ℕ → ℕ
+colon_number name = numberOfColon (colon_of name)
 
 -- where the declared prefix starts, 0 for none
 unfoldable pub start_number : List ℕ → ℕ
@@ -27,22 +32,21 @@ xml_number name = pick (is_xml (prefix_of name)) 1 0
 unfoldable pub xmlns_number : List ℕ → ℕ
 xmlns_number name = pick (is_xmlns (prefix_of name)) 1 0
 
--- the nine recorded bytes are the answers to the name
+-- the seven recorded bytes are the answers to the name
 unfoldable pub name_agrees : (name recorded : List ℕ) → Bool
 name_agrees name recorded =
-    eqb (two_at recorded 0) (colon_number (colon_of name))
-    && (eqb (two_at recorded 2) (colon_number (second_of name))
-    && (eqb (byte_at recorded 4) (declares_number (declares_of name))
-    && (eqb (two_at recorded 5) (start_number name)
-    && (eqb (byte_at recorded 7) (xml_number name)
-    && eqb (byte_at recorded 8) (xmlns_number name)))))
+    eqb (two_at recorded 0) (colon_number name)
+    && (eqb (byte_at recorded 2) (declares_number (declares_of name))
+    && (eqb (two_at recorded 3) (start_number name)
+    && (eqb (byte_at recorded 5) (xml_number name)
+    && eqb (byte_at recorded 6) (xmlns_number name))))
 
--- the record at the front: the name's length in two bytes, the name, nine bytes of answers
+-- the record at the front: the name's length in two bytes, the name, seven bytes of answers
 unfoldable pub name_record_of : List ℕ → RecordStep
 name_record_of rest =
-    pick (ltb (length rest) 11) Cut
-    (pick (ltb (length rest - 11) (two_at rest 0)) Cut
-    (pick (name_agrees (part rest 2 (2 + two_at rest 0)) (drop (2 + two_at rest 0) rest)) (Agrees (11 + two_at rest 0) 0 0) Differs))
+    pick (ltb (length rest) 9) Cut
+    (pick (ltb (length rest - 9) (two_at rest 0)) Cut
+    (pick (name_agrees (part rest 2 (2 + two_at rest 0)) (drop (2 + two_at rest 0) rest)) (Agrees (9 + two_at rest 0) 0 0) Differs))
 
 unfoldable pub names_replayed : List ℕ → Replayed
 names_replayed s = replay_each name_record_of s

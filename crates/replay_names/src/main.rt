@@ -1,21 +1,24 @@
 // Holds the answers of `name` against recorded ones, read from standard input. A record, with the numbers of two bytes
 // lower byte first:
 //
-//     length   name ..   colon   second   declares   declared prefix   xml   xmlns
-//     2        length    2       2        1          2                 1     1
+//     length   name ..   colon   declares   declared prefix   xml   xmlns
+//     2        length    2       1          2                 1     1
 //
-// `colon` is the index of the first colon, and `second` that of the second one, 65,535 for none; `declares` is 0 for nothing,
-// 1 for the default, 2 for a prefix; then where that prefix starts, 0 for none; then whether the part before the first colon
-// is `xml`, and `xmlns`, 0 where there is no colon. What is counted is `names_replayed`, specs/Replay.antt.
+// `colon` is the index of the first colon, 65,535 for none; `declares` is 0 for nothing, 1 for the default, 2 for a
+// prefix; then where that prefix starts, 0 for none; then whether the part before the colon is `xml`, and `xmlns`, 0
+// where there is no colon. What is counted is `names_replayed`, specs/Replay.antt.
+#![tactic(auto)]
+
 ghost use Rattle.std.specs.Prelude.{◌≡◌, ◌≤◌, length};
 ghost use Rattle.replay_names.specs.Replay.{colon_number, start_number, xml_number, xmlns_number, name_agrees, name_record_of, names_replayed};
 
 use name::Colon;
 use replay::{RecordStep, Replayed, RunEnd};
 
-fn colon_number(colon: Colon) -> usize
-    ensures { result ≡ colon_number colon }
+fn colon_number(name: &[u8]) -> usize
+    ensures { result ≡ colon_number name.now }
 {
+    let colon = name::index(name);
     match colon {
         Colon::At(at) => at,
         Colon::Nowhere => 65535,
@@ -53,40 +56,37 @@ fn xmlns_number(name: &[u8]) -> usize
 
 // Whether the answers to a name are the recorded ones, which stand at the front of `recorded`.
 fn agrees(name: &[u8], recorded: &[u8]) -> bool
-    requires { 9 ≤ length recorded.now }
+    requires { 7 ≤ length recorded.now }
     ensures { result ≡ name_agrees name.now recorded.now }
 {
-    if !replay::is_two(recorded, 0, colon_number(name::index(name))) {
+    if !replay::is_two(recorded, 0, colon_number(name)) {
         return false;
     }
-    if !replay::is_two(recorded, 2, colon_number(name::second_colon(name))) {
+    if !replay::is_byte(recorded, 2, name::as_namespace_binding(name).number()) {
         return false;
     }
-    if !replay::is_byte(recorded, 4, name::as_namespace_binding(name).number()) {
+    if !replay::is_two(recorded, 3, start_number(name)) {
         return false;
     }
-    if !replay::is_two(recorded, 5, start_number(name)) {
+    if !replay::is_byte(recorded, 5, xml_number(name)) {
         return false;
     }
-    if !replay::is_byte(recorded, 7, xml_number(name)) {
-        return false;
-    }
-    replay::is_byte(recorded, 8, xmlns_number(name))
+    replay::is_byte(recorded, 6, xmlns_number(name))
 }
 
 fn record_of(rest: &[u8]) -> RecordStep
     ensures { result ≡ name_record_of rest.now }
 {
-    if rest.len() < 11 {
+    if rest.len() < 9 {
         return RecordStep::Cut;
     }
     let n = replay::number_at(rest, 0);
-    if rest.len() - 11 < n {
+    if rest.len() - 9 < n {
         return RecordStep::Cut;
     }
     let to = 2 + n;
     if agrees(&rest[2..to], &rest[to..]) {
-        return RecordStep::Agrees(11 + n, 0, 0);
+        return RecordStep::Agrees(9 + n, 0, 0);
     }
     RecordStep::Differs
 }

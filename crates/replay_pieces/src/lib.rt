@@ -3,6 +3,8 @@
 // what it then holds is handed back beside the answer. So each does what the call by value does, and its contract is that one's.
 //
 // The borrow checker covers no function that lends a struct: each one here has a walk of its code under proofs/.
+#![tactic(auto)]
+
 ghost use Rattle.std.specs.Prelude.{◌≡◌};
 ghost use Rattle.tag_pieces.specs.Reader.{piece_of, finish_of, take_of};
 

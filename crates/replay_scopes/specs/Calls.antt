@@ -9,8 +9,8 @@ use Rattle.scope_table.specs.declared.NamespaceResult.{NamespaceResult}
 use Rattle.scope_change.specs.Change.{level_of}
 use Rattle.scope_declare.specs.Declare.{add_of, pop_of, limited_of}
 use Rattle.scope_push.specs.Push.{push_of}
-use Rattle.scope_lookup.specs.Lookup.{resolved_numbers, second_number, resolved_name_of}
-use Rattle.scope_lookup.specs.declared.ResolvedName.{ResolvedName}
+use Rattle.scope_lookup.specs.Lookup.{resolved_numbers, resolve_of}
+use Rattle.scope_lookup.specs.declared.Resolved.{Resolved}
 use Rattle.scope_listing.specs.Listing.{listed_numbers, bindings_of, bindings_at_of}
 use Rattle.scope_listing.specs.declared.Listed.{Listed}
 use Rattle.scope_listing.specs.declared.Listed.TheVariants as Shown
@@ -36,18 +36,9 @@ said_numbers code first second =
 unfoldable pub change_said : NamespaceResult → Said
 change_said a = said_numbers (get_or (change_numbers a) 0 0) (get_or (change_numbers a) 1 0) (get_or (change_numbers a) 2 0)
 
--- A lookup: 0, 1 with the bounds of the URI in the resolver's text, 2 with those of the prefix in the name, and to each the
--- index of the name's second colon as the third number, 65,535 for none; 20, with zeros alone.
-unfoldable pub lookup_said : ResolvedName → Said
-lookup_said found =
-    record {
-      code = get_or (resolved_numbers found.resolved) 0 0;
-      first = get_or (resolved_numbers found.resolved) 1 0;
-      second = get_or (resolved_numbers found.resolved) 2 0;
-      third = second_number 65535 found;
-      fourth = 0;
-      fifth = 0;
-    }
+-- A lookup: 0, 1 with the bounds of the URI in the resolver's text, 2 with those of the prefix in the name; 20.
+unfoldable pub lookup_said : Resolved → Said
+lookup_said found = said_numbers (get_or (resolved_numbers found) 0 0) (get_or (resolved_numbers found) 1 0) (get_or (resolved_numbers found) 2 0)
 
 -- the next place of a listing, which is recorded where a binding is shown
 unfoldable pub place_after_lem : Listed → (place : ℕ) → ℕ
@@ -87,7 +78,7 @@ unfoldable pub reset_to : NamespaceResolver → Called
 reset_to x = called_with (said_numbers 0 0 0) 0 0 x
 
 -- A question leaves the resolver as it was.
-unfoldable pub called_lookup : NamespaceResolver → ResolvedName → Called
+unfoldable pub called_lookup : NamespaceResolver → Resolved → Called
 called_lookup x found = called_with (lookup_said found) 1 0 x
 
 unfoldable pub called_listing : NamespaceResolver → Listing → Called
@@ -102,7 +93,7 @@ called_of x Push a b s t = changed_by (push_of s a x)
 called_of x Pop a b s t = changed_by (pop_of x)
 called_of x SetLevel a b s t = changed_by (level_of a x)
 called_of x SetLimit a b s t = reset_to (limited_of a x)
-called_of x ResolveAttribute a b s t = called_lookup x (resolved_name_of s false x)
-called_of x ResolveElement a b s t = called_lookup x (resolved_name_of s true x)
+called_of x ResolveAttribute a b s t = called_lookup x (resolve_of s false x)
+called_of x ResolveElement a b s t = called_lookup x (resolve_of s true x)
 called_of x Bindings a b s t = called_listing x (bindings_of a x)
 called_of x BindingsOf a b s t = called_listing x (bindings_at_of b a x)

@@ -8,6 +8,8 @@
 // values are the answer; then how many bytes of text and how many records are in use, and at which level. The resolver
 // goes from call to call by value, so that each contract is one equation on all of it. The calls are made twice: each by
 // value, and each on a resolver in a local that is lent to it. What is counted is `calls_replayed`, specs/Replay.antt.
+#![tactic(auto)]
+
 ghost use Rattle.std.specs.Prelude.{◌≡◌, ◌+◌, ◌≤◌, length};
 ghost use Rattle.replay_scopes.specs.Calls.{said_numbers, change_said, lookup_said, place_after_lem, listing_said, shown_in, changed_by, reset_to, called_lookup, called_listing, recorded_call_of, called_of};
 ghost use Rattle.replay_scopes.specs.Replay.{same_said, same_left, lengths_of, held_to, turn_of, call_record_of, calls_replayed};
@@ -15,11 +17,11 @@ ghost use Rattle.replay_scopes.specs.Replay.{same_said, same_left, lengths_of, h
 use name::PrefixDeclaration;
 use replay::{RecordStep, Replayed, RunEnd};
 use scope_listing::{Listed, Listing};
-use scope_lookup::ResolvedName;
+use scope_lookup::Resolved;
 use scope_table::{Changed, NamespaceResolver, NamespaceResult};
 
 // A recorded call, with what its numbers and texts are.
-#[derive(Drop)]
+#[derive(Clone, Copy)]
 enum RecordedCall {
     Fresh,
     // second text: the value
@@ -44,7 +46,7 @@ enum RecordedCall {
 }
 
 // An answer in numbers: its code, and its values with zeros after them.
-#[derive(Drop)]
+#[derive(Clone, Copy)]
 struct Said {
     code: usize,
     first: usize,
@@ -55,7 +57,7 @@ struct Said {
 }
 
 // What a call answers, how many names it resolves and how many bindings it shows, and the resolver that it leaves.
-#[derive(Drop)]
+#[derive(Clone, Copy)]
 struct Called {
     said: Said,
     names: usize,
@@ -64,14 +66,14 @@ struct Called {
 }
 
 // The lengths of a record's two texts, where the whole record is there.
-#[derive(Drop)]
+#[derive(Clone, Copy)]
 enum Lengths {
     Whole(usize, usize),
     Cut,
 }
 
 // What stands at the front of some bytes, and the resolver after it.
-#[derive(Drop)]
+#[derive(Clone, Copy)]
 struct Turn {
     step: RecordStep,
     resolver: NamespaceResolver,
@@ -117,21 +119,12 @@ fn change_said(answer: NamespaceResult) -> Said
     says(told.number, told.first, told.second)
 }
 
-// A lookup: 0 unbound, 1 bound with the bounds of the URI in the resolver's text, 2 unknown with those of the prefix. The third
-// number is the index of the name's second colon, 65,535 for none.
-fn lookup_said(found: ResolvedName) -> Said
+// A lookup: 0 unbound, 1 bound with the bounds of the URI in the resolver's text, 2 unknown with those of the prefix.
+fn lookup_said(found: Resolved) -> Said
     ensures { result ≡ lookup_said found }
 {
-    let resolved = found.resolved;
-    let told = scope_lookup::resolved_numbers(resolved);
-    Said {
-        code: told.number,
-        first: told.first,
-        second: told.second,
-        third: scope_lookup::second_number(found, 65535),
-        fourth: 0,
-        fifth: 0,
-    }
+    let told = scope_lookup::resolved_numbers(found);
+    says(told.number, told.first, told.second)
 }
 
 // The place to go on from, which is recorded where a binding is shown.
@@ -201,7 +194,7 @@ fn reset_to(r: NamespaceResolver) -> Called
 }
 
 // A question, which leaves the resolver as it was.
-fn looked_up(r: NamespaceResolver, found: ResolvedName) -> Called
+fn looked_up(r: NamespaceResolver, found: Resolved) -> Called
     ensures { result ≡ called_lookup r found }
 {
     Called {

@@ -7,6 +7,8 @@
 // An answer's five numbers are those of `tag_batch::numbers`. Each record is read three times: in batches of 512 answers and of
 // one, since the run is the same however it is cut, and by the iterator that carries its tag, one `next` after another. What
 // is counted is `tags_replayed`, specs/Replay.antt.
+#![tactic(auto)]
+
 ghost use Rattle.std.specs.Prelude.{◌≡◌, ◌*◌, ◌≤◌, length};
 ghost use Rattle.scan.specs.Bytes.{same_bytes};
 ghost use Rattle.tag_step.specs.Next.{opened};
@@ -20,7 +22,7 @@ use tag_keys::CAPACITY;
 use tag_step::{IterState, Place, Standing};
 
 // How a recorded tag was read: in HTML mode or in XML mode, whether keys were checked and recorded, and from where.
-#[derive(Drop)]
+#[derive(Clone, Copy)]
 pub struct Mode {
     pub html: bool,
     pub checks: bool,

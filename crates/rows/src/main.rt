@@ -1,6 +1,8 @@
 // The iterator's rows of document 01, "Bytes to hold against the rules", read with checks on. What it writes is held against
 // `stdout`, which was written from the document. A row: the mode (`x` XML, `h` HTML), the opening position, the tag between
 // bars; then its answers, a line each (crates/lines), and `end`.
+#![tactic(auto)]
+
 use tag_keys::CAPACITY;
 use tag_step::{Place, Standing};
 

@@ -2,6 +2,8 @@
 //
 // Ports of `add` and `set_level` of `NamespaceResolver` what they do to the buffer and the bindings (src/name.rs). The
 // functions work on lent memory that may be shorter than the capacity (scope_table, specs/Lent).
+#![tactic(auto)]
+
 ghost use Rattle.std.specs.Prelude.{◌≡◌, ◌+◌, ◌≤◌, length};
 ghost use Rattle.scope_table.specs.Lists.{cut};
 ghost use Rattle.scope_table.specs.Records.{row_at, record_at};
@@ -14,7 +16,7 @@ ghost use Rattle.scope_change.specs.Asked.{HoldsBinding, CanAppend};
 use scope_table::{Form, Head, NamespaceBinding, NamespaceResolver, NamespaceResult, Outcome};
 
 // What may be in use at most, in records and in bytes of text: all that there is for a single resolver.
-#[derive(Drop)]
+#[derive(Clone, Copy)]
 pub struct Room {
     pub records: usize,
     pub bytes: usize,

@@ -3,6 +3,8 @@
 // Each is there twice: on lent memory, where the work is done and nothing is copied (`add_in`, `pop_in`, and `set_level_in` of
 // scope_change), and by value, where the new resolver is handed back. These test the form of the resolver first (refusal 20);
 // `declare_in`, reading the level, and reading or setting the limit do not.
+#![tactic(auto)]
+
 ghost use Rattle.std.specs.Prelude.{◌≡◌, ◌-◌, length};
 ghost use Rattle.scope_table.specs.Answer.{numbered_change};
 ghost use Rattle.scope_table.specs.Lent.{given, lent_of};
@@ -15,7 +17,7 @@ use scope_change::Room;
 use scope_table::{Changed, Form, Head, NamespaceResolver, NamespaceResult, Outcome};
 
 // Where a prefix and a value stand in the caller's own bytes: what 12 to 15 hold.
-#[derive(Drop)]
+#[derive(Clone, Copy)]
 pub struct Places {
     pub prefix_start: usize,
     pub prefix_end: usize,
@@ -25,7 +27,7 @@ pub struct Places {
 
 // What the prefix and the value of a declaration say by themselves: an answer that leaves the resolver as it is, or a
 // binding to be added, under so many bytes of the prefix.
-#[derive(Drop)]
+#[derive(Clone, Copy)]
 pub enum Judged {
     Keep(NamespaceResult),
     Bind(usize),

@@ -4,6 +4,8 @@
 // Each is thin: the resolver behind the reference goes to the call by value, the resolver that comes back is put in its
 // place, and the answer is handed on. So every rule stands once, with the calls by value, and a refusal leaves here what
 // it leaves there.
+#![tactic(auto)]
+
 ghost use Rattle.std.specs.Prelude.{◌≡◌};
 ghost use Rattle.scope_table.specs.Answer.{changed, numbered_change};
 ghost use Rattle.scope_change.specs.Change.{level_of};

@@ -3,6 +3,7 @@
 //
 // `bindings_in` and `bindings_of_in` take lent memory, `bindings` and `bindings_of` a resolver by value. These four test the
 // form of the resolver first (refusal 20); what they call asks for it, and what takes an answer has no resolver to test.
+#![tactic(auto)]
 
 ghost use Rattle.std.specs.Prelude.{◌≡◌, ◌<◌, [], ◌∷◌, length, eqb};
 ghost use Rattle.scan.specs.First.{pick, first_to};
@@ -17,7 +18,7 @@ ghost use Rattle.scope_listing.specs.declared.Listed.TheVariants.{WrongLength};
 use scope_table::{Form, Head, NamespaceBinding, NamespaceResolver};
 
 // What a listing shows.
-#[derive(Drop)]
+#[derive(Clone, Copy)]
 pub enum Listed {
     // a binding: where its prefix starts, where that ends and its value starts, and where that ends. A default has no
     // prefix, so its first two are equal.
@@ -30,7 +31,7 @@ pub enum Listed {
 }
 
 // What a listing shows, and the place to go on from.
-#[derive(Drop)]
+#[derive(Clone, Copy)]
 pub struct Listing {
     pub answer: Listed,
     pub place: usize,
@@ -38,7 +39,7 @@ pub struct Listing {
 
 // What a listing shows as numbers, for a function that can hand out no enum: the number of the answer, and the bounds of
 // prefix and value, 0 where there are none.
-#[derive(Drop)]
+#[derive(Clone, Copy)]
 pub struct LinedUp {
     pub number: usize,
     pub prefix_from: usize,

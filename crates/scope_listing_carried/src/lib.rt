@@ -6,6 +6,8 @@
 // `bindings_of_in`.
 //
 // No function over a struct that holds a reference is proved by itself: each one here has a walk of its code under proofs/.
+#![tactic(auto)]
+
 ghost use Rattle.std.specs.Prelude.{◌≡◌};
 ghost use Rattle.scope_listing.specs.Listing.{listed_numbers};
 ghost use Rattle.scope_listing_carried.specs.Listings.{in_effect_on, level_on, listed_on, listed_on_level, after_shown, after_shown_at};
@@ -14,14 +16,14 @@ use scope_listing::Listed;
 use scope_table::NamespaceResolver;
 
 // A resolver, and the place where its listing goes on.
-#[derive(Drop)]
+#[derive(Clone, Copy)]
 pub struct NamespaceBindingsIter<'a> {
     pub resolver: &'a NamespaceResolver,
     pub cursor: usize,
 }
 
 // The same for the bindings of one level.
-#[derive(Drop)]
+#[derive(Clone, Copy)]
 pub struct NamespaceBindingsOfLevelIter<'a> {
     pub resolver: &'a NamespaceResolver,
     pub cursor: usize,

@@ -1,28 +1,24 @@
 -- The theorems at work on a resolver with ` xmlns="u" xmlns:p="v"` in scope, and what its bounds mark.
 use Prim.Native.Nat.{◌≤◌}
-use Prim.Native.String.{String}
 use mathlib.Core.Path.{◌≡◌, refl}
 use mathlib.Core.Bool.{true, false}
-use mathlib.Core.List.{[], ◌∷◌, ◌++◌, map}
+use mathlib.Core.List.{[], ◌∷◌, ◌++◌}
 use native.Mathlib.Omega.{arith}
 use lib.ListN.{length}
 use Rattle.scan.specs.First.{first_of, first_to, first_from}
 use Rattle.scan.specs.Bytes.{is_byte, part, Marks, same_bytes, bytes_from, bytes}
 use Rattle.scan.specs.Lists.{pad_to}
-use Rattle.name.specs.Split.{colon_at, has_colon, prefix_of, local_at, second_at, second_of}
-use Rattle.name.specs.declared.Colon.TheVariants.{At, Nowhere}
+use Rattle.name.specs.Split.{colon_at, has_colon, prefix_of}
 use Rattle.scope_table.specs.Lists.{last_below, all_below, all_zero}
 use Rattle.scope_table.specs.Records.{record_at, prefix_in, value_in}
 use Rattle.scope_table.specs.Table.{LIMIT, built_in, text_of, level_before, is_record, opens_built_in, is_chain, is_rising, is_within, is_clear, is_table, valid_of, head_of, resolver_of}
 use Rattle.scope_table.specs.declared.NamespaceResolver.{NamespaceResolver}
 use Rattle.scope_table.proofs.Good.{form_of_lem, lies}
-use Rattle.scope_lookup.specs.Lookup.{has_prefix, is_default, value_or, explicit_of, default_of, among_of, resolve_prefix_of, resolve_of, with_colon, resolved_name_of, second_number}
+use Rattle.scope_lookup.specs.Lookup.{has_prefix, is_default, value_or, explicit_of, default_of, among_of, resolve_prefix_of, resolve_of}
 use Rattle.scope_lookup.specs.Marked.{value_nth}
-use Rattle.scope_lookup.specs.declared.Resolved.TheVariants.{Bound, Unknown, BadResolver}
-use Rattle.scope_lookup.specs.declared.ResolvedName.{ResolvedName}
+use Rattle.scope_lookup.specs.declared.Resolved.TheVariants.{Bound}
 use Rattle.scope_lookup.proofs.Marked.{prefix_marks, resolve_marks}
 use Rattle.scope_lookup.proofs.Padded.{pad_among}
-use Rattle.scope_lookup.proofs.Colons.{second_passed_on}
 
 abbrev pub scoped : NamespaceResolver
 scoped =
@@ -44,36 +40,6 @@ marks_instance = (
   resolve_marks scoped scoped_valid scoped_long (bytes "p:a") false,
   resolve_marks scoped scoped_valid scoped_long (bytes "a") true,
   resolve_marks scoped scoped_valid scoped_long (bytes "q:a") false,
-)
-
--- the second colon, whatever a name resolves to
-abbrev told : String → ResolvedName
-told name = resolved_name_of (bytes name) true scoped
-
-pub colons_told :
-    map told ("p:a:b" ∷ "p:a" ∷ "a" ∷ "q:a:b" ∷ ":a:b" ∷ "xml::" ∷ [])
-    ≡ with_colon (Bound 75 76) (At 3)
-    ∷ with_colon (Bound 75 76) Nowhere
-    ∷ with_colon (Bound 73 74) Nowhere
-    ∷ with_colon (Unknown 0 1) (At 3)
-    ∷ with_colon (Unknown 0 0) (At 2)
-    ∷ with_colon (Bound 3 39) (At 4)
-    ∷ []
-unfolding first_of first_to first_from is_byte part same_bytes bytes_from bytes colon_at has_colon prefix_of local_at second_at second_of last_below all_below all_zero prefix_in built_in text_of level_before is_record opens_built_in is_chain is_rising is_within is_clear is_table valid_of has_prefix is_default value_or explicit_of default_of among_of resolve_prefix_of resolve_of resolved_name_of
-colons_told = refl
-
--- with a byte of the unused text set
-abbrev unclean : NamespaceResolver
-unclean = resolver_of (scoped.text ++ (1 ∷ [])) scoped.records scoped.head
-
--- `second_passed_on` of a bound name, an unknown one and one without a prefix, whose length is told; and of that resolver
-pub passed_instance : (second_number 5 (resolved_name_of (bytes "p:a:b") false scoped) ≡ 3) × (second_number 5 (resolved_name_of (bytes "q:a:b") false scoped) ≡ 3) × (second_number 2 (resolved_name_of (bytes "ab") true scoped) ≡ 2) × (resolved_name_of (bytes "p:a:b") true unclean ≡ with_colon BadResolver Nowhere)
-unfolding first_of first_to first_from is_byte same_bytes bytes_from bytes colon_at has_colon local_at second_at all_below all_zero built_in text_of level_before is_record opens_built_in is_chain is_rising is_within is_clear is_table valid_of
-passed_instance = (
-  (second_passed_on (bytes "p:a:b") false scoped).passed scoped_valid,
-  (second_passed_on (bytes "q:a:b") false scoped).passed scoped_valid,
-  (second_passed_on (bytes "ab") true scoped).passed scoped_valid,
-  (second_passed_on (bytes "p:a:b") true unclean).refused refl,
 )
 
 pub prefix_marks_instance : Marks scoped.text 75 76 (bytes "v") × Marks (bytes "q") 0 1 (bytes "q")

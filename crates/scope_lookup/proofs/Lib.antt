@@ -2,5 +2,4 @@ pub mod Laws
 pub mod Padded
 pub mod Numbers
 pub mod Marked
-pub mod Colons
 pub mod Examples

@@ -1,17 +1,12 @@
--- The numbers of a lookup's answer, with those of a colon, and those of an optional namespace tell all cases apart: each can be read
--- back.
+-- The numbers of a lookup's answer, and those of an optional namespace, tell all cases apart: each can be read back.
 use Prim.Native.Nat.{ℕ}
 use mathlib.Core.Path.{◌≡◌, refl, sym, ap, ◌∙◌}
-use mathlib.Core.List.{List, [], ◌∷◌}
+use mathlib.Core.List.{List}
 use lib.Dec.{eqb}
 use lib.ListN.{get_or, length}
 use Rattle.scan.specs.First.{pick}
-use Rattle.name.specs.Split.{colon_numbers}
-use Rattle.name.specs.declared.Colon.{Colon}
-use Rattle.name.specs.declared.Colon.TheVariants.{At, Nowhere}
-use Rattle.scope_lookup.specs.Lookup.{with_colon, resolved_numbers, name_numbers, namespace_of, namespace_numbers}
+use Rattle.scope_lookup.specs.Lookup.{resolved_numbers, namespace_of, namespace_numbers}
 use Rattle.scope_lookup.specs.declared.Resolved.{Resolved}
-use Rattle.scope_lookup.specs.declared.ResolvedName.{ResolvedName}
 use Rattle.scope_lookup.specs.declared.Resolved.TheVariants as Found
 use Rattle.scope_lookup.specs.declared.Namespace.{Namespace}
 use Rattle.scope_lookup.specs.declared.Namespace.TheVariants as Told
@@ -33,25 +28,6 @@ resolved_back Found.WrongLength = refl
 
 pub resolved_apart : (f g : Resolved) → resolved_numbers f ≡ resolved_numbers g → f ≡ g
 resolved_apart f g e = sym (resolved_back f) ∙ ap resolved_by e ∙ resolved_back g
-
-colon_by : List ℕ → Colon
-colon_by [] = Nowhere
-colon_by (i ∷ l) = At i
-
-colon_back : (c : Colon) → colon_by (colon_numbers c) ≡ c
-unfolding colon_numbers colon_by
-colon_back (At i) = refl
-colon_back Nowhere = refl
-
-name_by : List ℕ × List ℕ → ResolvedName
-name_by n = with_colon (resolved_by n.0) (colon_by n.1)
-
-name_back : (f : ResolvedName) → name_by (name_numbers f) ≡ f
-unfolding name_numbers name_by
-name_back f = rw (resolved_back f.resolved, colon_back f.second_colon)
-
-pub name_apart : (f g : ResolvedName) → name_numbers f ≡ name_numbers g → f ≡ g
-name_apart f g e = sym (name_back f) ∙ ap name_by e ∙ name_back g
 
 namespace_by : List ℕ → Namespace
 namespace_by l =

@@ -11,12 +11,9 @@ use Rattle.scan.specs.First.{pick}
 use Rattle.scan.specs.Bytes.{same_bytes}
 use Rattle.scan.proofs.Lists.{part_same, pad_take}
 use Rattle.scan.specs.Lists.{pad_to}
-use Rattle.name.specs.Split.{has_colon, prefix_of, second_of}
-use Rattle.name.specs.declared.Colon.{Colon}
-use Rattle.name.specs.declared.Colon.TheVariants.{Nowhere}
 use Rattle.scope_table.specs.Records.{record_at, value_start, value_end, prefix_in}
 use Rattle.scope_table.specs.Table.{TEXT, NUMBERS, valid_of}
-use Rattle.scope_table.specs.Lent.{stands_for, fits_of, lent, form_of}
+use Rattle.scope_table.specs.Lent.{stands_for, lent, form_of}
 use Rattle.scope_table.proofs.Pad.{pad_records}
 use Rattle.scope_table.proofs.Good.{Ready, ready, lies}
 use Rattle.scope_table.proofs.Calls.{asks_bad, asks_good}
@@ -26,7 +23,7 @@ use Rattle.scope_table.specs.declared.NamespaceResolver.{NamespaceResolver}
 use Rattle.scope_table.specs.declared.Form.TheVariants as Is
 use Rattle.scope_table.specs.Lists.{last_below}
 use Rattle.scope_lookup.specs.Inside.{Inside}
-use Rattle.scope_lookup.specs.Lookup.{has_prefix, explicit_of, among_of, resolve_prefix_of, resolve_of, with_colon, colon_told, resolved_name_of}
+use Rattle.scope_lookup.specs.Lookup.{has_prefix, explicit_of, among_of, resolve_prefix_of}
 use Rattle.scope_lookup.specs.declared.Resolved.{Resolved}
 use Rattle.scope_lookup.specs.declared.Resolved.TheVariants.{BadResolver, WrongLength}
 use Rattle.scope_table.proofs.Last.{last_same}
@@ -71,28 +68,3 @@ module _ (text records : List ℕ) (head : Head) (p : List ℕ) (explicit wanted
   lookup_good e =
       let i = ready_inside text records head (ready text records head e) in
       sym (asks_good text records head WrongLength among_in (λ x. BadResolver) e ∙ ap (λ (rows : ℕ → NamespaceBinding). among_of (pad_to TEXT text) rows head.count p explicit wanted) (pad_records NUMBERS records) ∙ pad_among TEXT text (record_at records) head.count i.each p explicit wanted)
-
--- The same of a whole name, with its second colon.
-module _ (text records : List ℕ) (head : Head) (name : List ℕ) (wanted : Bool) where
-  lent_parts : (t : Bool) (x : NamespaceResolver) → pick t (with_colon (resolve_of name wanted x) (colon_told name x)) (with_colon WrongLength Nowhere) ≡ with_colon (pick t (resolve_of name wanted x) WrongLength) (pick t (colon_told name x) Nowhere)
-  lent_parts true x = refl
-  lent_parts false x = refl
-
-  -- what is lent answers for each part
-  lent_name : lent (with_colon WrongLength Nowhere) (resolved_name_of name wanted) text records head ≡ with_colon (lent WrongLength (resolve_of name wanted) text records head) (lent Nowhere (colon_told name) text records head)
-  unfolding lent resolved_name_of
-  lent_name = lent_parts (fits_of (length text) (length records) head.used head.count) (stands_for text records head)
-
-  pub name_bad : form_of text records head ≡ Is.Bad → with_colon BadResolver Nowhere ≡ lent (with_colon WrongLength Nowhere) (resolved_name_of name wanted) text records head
-  unfolding resolve_of
-  name_bad e =
-      let r = lookup_bad text records head (prefix_of name) (has_colon name) wanted e in
-      let c = asks_bad text records head Nowhere (λ x. second_of name) (λ x. Nowhere) e in
-      ap (λ (a : Resolved). with_colon a Nowhere) r ∙ ap (with_colon (lent WrongLength (resolve_of name wanted) text records head)) (sym c) ∙ sym lent_name
-
-  pub name_good : form_of text records head ≡ Is.Good → with_colon (among_of text (record_at records) head.count (prefix_of name) (has_colon name) wanted) (second_of name) ≡ lent (with_colon WrongLength Nowhere) (resolved_name_of name wanted) text records head
-  unfolding resolve_of
-  name_good e =
-      let r = lookup_good text records head (prefix_of name) (has_colon name) wanted e in
-      let c = asks_good text records head Nowhere (λ x. second_of name) (λ x. Nowhere) e in
-      ap (λ (a : Resolved). with_colon a (second_of name)) r ∙ ap (with_colon (lent WrongLength (resolve_of name wanted) text records head)) (sym c) ∙ sym lent_name

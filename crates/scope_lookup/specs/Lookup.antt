@@ -1,18 +1,15 @@
 -- Document 01, "Scopes": what a name or a prefix resolves to. What is found is a part of the resolver's text, and what is
 -- not is a part of the name: both stand in an answer as bounds, and `uri_part`, `prefix_part` give their bytes.
-use Rattle.std.specs.Prelude.{ℕ, zero, suc, Bool, true, false, List, [], ◌∷◌, length, eqb}
+use Rattle.std.specs.Prelude.{ℕ, zero, suc, Bool, List, [], ◌∷◌, length, eqb}
 use Rattle.scan.specs.First.{pick}
 use Rattle.scan.specs.Bytes.{inside, same_bytes}
-use Rattle.name.specs.Split.{has_colon, prefix_of, second_of, colon_numbers, colon_or}
-use Rattle.name.specs.declared.Colon.{Colon}
-use Rattle.name.specs.declared.Colon.TheVariants.{Nowhere}
+use Rattle.name.specs.Split.{has_colon, prefix_of}
 use Rattle.scope_table.specs.Lists.{last_below}
 use Rattle.scope_table.specs.Records.{record_at, value_start, value_end, prefix_in}
 use Rattle.scope_table.specs.Table.{valid_of}
 use Rattle.scope_table.specs.declared.NamespaceBinding.{NamespaceBinding}
 use Rattle.scope_table.specs.declared.NamespaceResolver.{NamespaceResolver}
 use Rattle.scope_lookup.specs.declared.Resolved.{Resolved}
-use Rattle.scope_lookup.specs.declared.ResolvedName.{ResolvedName}
 use Rattle.scope_lookup.specs.declared.Resolved.TheVariants.{Bound, Unbound, Unknown, BadResolver, WrongLength}
 use Rattle.scope_lookup.specs.declared.Namespace as Optional
 use Rattle.scope_lookup.specs.declared.Namespace.TheVariants as Told
@@ -26,14 +23,6 @@ resolved_numbers (Bound a e) = 1 ∷ a ∷ e ∷ []
 resolved_numbers (Unknown a e) = 2 ∷ a ∷ e ∷ []
 resolved_numbers BadResolver = 20 ∷ []
 resolved_numbers WrongLength = 99 ∷ []
-
--- whether the name was looked up: the last two say that it was not
-abbrev pub is_answered : Resolved → Bool
-is_answered Unbound = true
-is_answered (Bound a e) = true
-is_answered (Unknown a e) = true
-is_answered BadResolver = false
-is_answered WrongLength = false
 
 -- A record has the prefix p; it has none: a default.
 unfoldable pub has_prefix : (text p : List ℕ) → NamespaceBinding → Bool
@@ -76,26 +65,6 @@ resolve_prefix_of p explicit wanted x =
 -- default, `resolve_attribute` does not.
 unfoldable pub resolve_of : (name : List ℕ) (wanted : Bool) → NamespaceResolver → Resolved
 resolve_of name wanted x = resolve_prefix_of (prefix_of name) (has_colon name) wanted x
-
--- a lookup's answer with where the name's local part has another colon
-abbrev pub with_colon : Resolved → Colon → ResolvedName
-with_colon r colon = record { resolved = r; second_colon = colon }
-
--- What is told of a second colon: where it is, and with refusal 20 nothing.
-abbrev pub colon_told : (name : List ℕ) → NamespaceResolver → Colon
-colon_told name x = pick (valid_of x) (second_of name) Nowhere
-
--- `resolve` tells both, whatever the name resolves to.
-unfoldable pub resolved_name_of : (name : List ℕ) (wanted : Bool) → NamespaceResolver → ResolvedName
-resolved_name_of name wanted x = with_colon (resolve_of name wanted x) (colon_told name x)
-
--- Both by numbers: those of the answer, and the colon's place if there is one.
-unfoldable pub name_numbers : ResolvedName → List ℕ × List ℕ
-name_numbers n = (resolved_numbers n.resolved, colon_numbers n.second_colon)
-
--- The colon by one number: its place, `len` where there is none, and 0 where the name was not looked up.
-unfoldable pub second_number : (len : ℕ) → ResolvedName → ℕ
-second_number len n = pick (is_answered n.resolved) (colon_or len n.second_colon) 0
 
 -- the URI: a part of the resolver's text
 unfoldable pub uri_part : List ℕ → Resolved → List ℕ

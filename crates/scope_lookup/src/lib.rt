@@ -6,27 +6,26 @@
 // as its own slice lives.
 //
 // Of the lookups, `resolve_in` and `resolve_prefix_in` take lent memory, and `resolve` and its kin a resolver by value; each
-// tests the form of the resolver first (refusal 20). `resolved_among` and `name_among` are for a caller that has made that test.
-// What takes an answer, as `namespace_of`, has no resolver to test. Whoever asks for a name is also told where its second colon is.
+// tests the form of the resolver first (refusal 20). `name_among` is for a caller that has made that test. What takes an
+// answer, as `namespace_of`, has no resolver to test.
+#![tactic(auto)]
 
 ghost use Rattle.std.specs.Prelude.{◌≡◌, true, false, ◌≤◌, ◌<◌, length, take};
-ghost use Rattle.name.specs.Split.{has_colon, colon_of, prefix_of, local_of, second_of};
-ghost use Rattle.name.specs.declared.Colon.TheVariants.{Nowhere};
+ghost use Rattle.name.specs.Split.{has_colon, prefix_of, local_of};
 ghost use Rattle.scope_table.specs.Lists.{last_below};
 ghost use Rattle.scope_table.specs.Records.{record_at};
 ghost use Rattle.scope_table.specs.Table.{TEXT};
 ghost use Rattle.scope_table.specs.Answer.{told_of};
 ghost use Rattle.scope_table.specs.Lent.{lent};
 ghost use Rattle.scope_lookup.specs.Inside.{Inside};
-ghost use Rattle.scope_lookup.specs.Lookup.{has_prefix, is_default, value_or, explicit_of, default_of, among_of, resolve_prefix_of, with_colon, resolved_name_of, uri_part, prefix_part, namespace_of, resolved_numbers, name_numbers, is_answered, second_number, namespace_numbers};
+ghost use Rattle.scope_lookup.specs.Lookup.{has_prefix, is_default, value_or, explicit_of, default_of, among_of, resolve_prefix_of, resolve_of, uri_part, prefix_part, namespace_of, resolved_numbers, namespace_numbers};
 ghost use Rattle.scope_lookup.specs.declared.Resolved.TheVariants.{WrongLength};
 
-use name::Colon;
 use scope_table::{Form, Head, NamespaceResolver, Told};
 
 // What a name resolves to: `ResolveResult` of src/name.rs, refusal 20, and the answer of lent memory alone. The bounds of
 // `Bound` are in the resolver's text, those of `Unknown` in the name.
-#[derive(Drop)]
+#[derive(Clone, Copy)]
 pub enum Resolved {
     // `p:a` within `xmlns:p="v"`, and `a`, as an element, within `xmlns="v"`: where v stands
     Bound(usize, usize),
@@ -40,16 +39,8 @@ pub enum Resolved {
     WrongLength,
 }
 
-// What a lookup of a name says: what the name resolves to, and where its local part has another colon, counted from the name's
-// start. With the last two answers none is told.
-#[derive(Drop)]
-pub struct ResolvedName {
-    pub resolved: Resolved,
-    pub second_colon: Colon,
-}
-
 // What a lookup says of a name's namespace: `Result<Option<Namespace>, NamespaceError>` of src/name.rs.
-#[derive(Drop)]
+#[derive(Clone, Copy)]
 pub enum Namespace {
     // where the URI stands in the resolver's text
     Bound(usize, usize),
@@ -176,25 +167,8 @@ fn among<'t, 'n>(
     default(records, count, wanted)
 }
 
-// A whole name, in a table of the right form, by its first colon: what stands before it is the prefix.
-fn by_colon<'t, 'n>(
-    text: &'t [u8],
-    records: &'t [usize],
-    count: usize,
-    name: &'n [u8],
-    colon: Colon,
-    wanted: bool,
-) -> Resolved
-    requires { Inside records.now count (length text.now) × (colon ≡ colon_of name.now) }
-    ensures { result ≡ among_of text.now (record_at records.now) count (prefix_of name.now) (has_colon name.now) wanted }
-{
-    match colon {
-        Colon::At(at) => explicit(text, records, count, name, at),
-        Colon::Nowhere => default(records, count, wanted),
-    }
-}
-
-// The same by the name alone: for `has_nil`, which calls this for each name that may be it.
+// A whole name, in a table of the right form: what stands before its first colon is the prefix. What looks up many names
+// with one test of the resolver calls this for each.
 pub fn name_among<'t, 'n>(
     text: &'t [u8],
     records: &'t [usize],
@@ -205,39 +179,11 @@ pub fn name_among<'t, 'n>(
     requires { Inside records.now count (length text.now) }
     ensures { result ≡ among_of text.now (record_at records.now) count (prefix_of name.now) (has_colon name.now) wanted }
 {
-    by_colon(text, records, count, name, name::index(name), wanted)
-}
-
-// The same, with the second colon. What looks up many names with one test of the resolver calls this for each.
-pub fn resolved_among<'t, 'n>(
-    text: &'t [u8],
-    records: &'t [usize],
-    count: usize,
-    name: &'n [u8],
-    wanted: bool,
-) -> ResolvedName
-    requires { Inside records.now count (length text.now) }
-    ensures { result
-        ≡ with_colon (among_of text.now (record_at records.now) count (prefix_of name.now) (has_colon name.now) wanted)
-        (second_of name.now) }
-{
-    let parts = name::decompose(name);
-    let colon = parts.colon;
-    let second = parts.second_colon;
-    ResolvedName {
-        resolved: by_colon(text, records, count, name, colon, wanted),
-        second_colon: second,
+    let at = name::colon_at(name);
+    if at < name.len() {
+        return explicit(text, records, count, name, at);
     }
-}
-
-// An answer for a name that was not looked up, with no colon.
-fn unanswered(resolved: Resolved) -> ResolvedName
-    ensures { result ≡ with_colon resolved Nowhere }
-{
-    ResolvedName {
-        resolved: resolved,
-        second_colon: Colon::Nowhere,
-    }
+    default(records, count, wanted)
 }
 
 // `NamespaceResolver::resolve_prefix`, src/name.rs, on lent memory: with `named`, a prefix that stands in a name, and else
@@ -262,45 +208,45 @@ pub fn resolve_prefix_in<'t, 'n>(
     among(text, records, count, prefix, named, wanted)
 }
 
-// `NamespaceResolver::resolve`, src/name.rs, on lent memory, with the second colon.
+// `NamespaceResolver::resolve`, src/name.rs, on lent memory.
 pub fn resolve_in<'t, 'n>(
     text: &'t [u8],
     records: &'t [usize],
     head: Head,
     name: &'n [u8],
     wanted: bool,
-) -> ResolvedName
-    ensures { result ≡ lent (with_colon WrongLength Nowhere) (resolved_name_of name.now wanted) text.now records.now head }
+) -> Resolved
+    ensures { result ≡ lent WrongLength (resolve_of name.now wanted) text.now records.now head }
 {
     let form = scope_table::form_in(text, records, head);
     match form {
         Form::Good => {}
-        Form::Bad => return unanswered(Resolved::BadResolver),
-        Form::WrongLength => return unanswered(Resolved::WrongLength),
+        Form::Bad => return Resolved::BadResolver,
+        Form::WrongLength => return Resolved::WrongLength,
     }
     let count = head.count;
-    resolved_among(text, records, count, name, wanted)
+    name_among(text, records, count, name, wanted)
 }
 
-// `NamespaceResolver::resolve`, src/name.rs. What is handed back of the name is `local_part`, and its second colon is told.
-pub fn resolve(r: NamespaceResolver, name: &[u8], wanted: bool) -> ResolvedName
-    ensures { name_numbers result ≡ name_numbers (resolved_name_of name.now wanted r) }
+// `NamespaceResolver::resolve`, src/name.rs. What is handed back of the name is `local_part`.
+pub fn resolve(r: NamespaceResolver, name: &[u8], wanted: bool) -> Resolved
+    ensures { resolved_numbers result ≡ resolved_numbers (resolve_of name.now wanted r) }
 {
     let head = r.head;
     resolve_in(&r.text, &r.records, head, name, wanted)
 }
 
 // `NamespaceResolver::resolve_element`, src/name.rs.
-pub fn resolve_element(r: NamespaceResolver, name: &[u8]) -> ResolvedName
-    ensures { name_numbers result ≡ name_numbers (resolved_name_of name.now true r) }
+pub fn resolve_element(r: NamespaceResolver, name: &[u8]) -> Resolved
+    ensures { resolved_numbers result ≡ resolved_numbers (resolve_of name.now true r) }
 {
     let head = r.head;
     resolve_in(&r.text, &r.records, head, name, true)
 }
 
 // `NamespaceResolver::resolve_attribute`, src/name.rs.
-pub fn resolve_attribute(r: NamespaceResolver, name: &[u8]) -> ResolvedName
-    ensures { name_numbers result ≡ name_numbers (resolved_name_of name.now false r) }
+pub fn resolve_attribute(r: NamespaceResolver, name: &[u8]) -> Resolved
+    ensures { resolved_numbers result ≡ resolved_numbers (resolve_of name.now false r) }
 {
     let head = r.head;
     resolve_in(&r.text, &r.records, head, name, false)
@@ -364,34 +310,5 @@ pub fn resolved_numbers(found: Resolved) -> Told
         Resolved::Unknown(from, to) => scope_table::told_of(2, from, to),
         Resolved::BadResolver => scope_table::told_of(20, 0, 0),
         Resolved::WrongLength => scope_table::told_of(99, 0, 0),
-    }
-}
-
-// Whether the name was looked up.
-fn is_answered(resolved: Resolved) -> bool
-    ensures { result ≡ is_answered resolved }
-{
-    match resolved {
-        Resolved::Bound(_, _) => true,
-        Resolved::Unbound => true,
-        Resolved::Unknown(_, _) => true,
-        Resolved::BadResolver => false,
-        Resolved::WrongLength => false,
-    }
-}
-
-// The second colon as a number, beside those: its place in the name, the name's length where there is none, and 0 where the name
-// was not looked up.
-pub fn second_number(found: ResolvedName, len: usize) -> usize
-    ensures { result ≡ second_number len found }
-{
-    let resolved = found.resolved;
-    if !is_answered(resolved) {
-        return 0;
-    }
-    let colon = found.second_colon;
-    match colon {
-        Colon::At(at) => at,
-        Colon::Nowhere => len,
     }
 }

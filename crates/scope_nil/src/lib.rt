@@ -5,6 +5,8 @@
 //         opened        no           yes: the iterator is left here
 //
 // Both are tested once a call: every name is then looked up in a table that was found good.
+#![tactic(auto)]
+
 ghost use Rattle.std.specs.Prelude.{◌≡◌, ◌≤◌, length, take};
 ghost use Rattle.scan.specs.Lists.{over};
 ghost use Rattle.scope_table.specs.Table.{resolver_of};
@@ -18,7 +20,7 @@ use tag_parts::Truth;
 use tag_step::{Answer, IterState, Place, Standing, Stepped};
 
 // Whether a tag has a `nil` that is true: the crate's bool, and the refusals of what it is asked with.
-#[derive(Drop)]
+#[derive(Clone, Copy)]
 pub enum Nil {
     // `f:nil="true"` where `f` is bound to the XMLSchema-instance URI
     Yes,
@@ -51,14 +53,14 @@ impl Nil {
 }
 
 // The answer, and the iterator that it leaves: after the attribute that was a yes, or after the end.
-#[derive(Drop)]
+#[derive(Clone, Copy)]
 pub struct HasNil {
     pub answer: Nil,
     pub state: IterState,
 }
 
 // The answer, and what it leaves beside lent tables. Mode and checks stay.
-#[derive(Drop)]
+#[derive(Clone, Copy)]
 pub struct Left {
     pub answer: Nil,
     pub place: Place,

@@ -5,6 +5,8 @@
 // from the crate `tag_carried`, which knows nothing of scopes.
 //
 // No function over a struct that holds a reference is proved by itself: proofs/ has a walk of the code.
+#![tactic(auto)]
+
 ghost use Rattle.std.specs.Prelude.{◌≡◌};
 ghost use Rattle.scope_nil.specs.Nil.{nil_number};
 ghost use Rattle.scope_nil_carried.specs.NilHeld.{said_of, after_nil};

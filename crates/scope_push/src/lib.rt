@@ -6,6 +6,8 @@
 //                                    u and p are bound, q is not
 //
 // On lent memory (`push_in`) and by value (`push`), as the other changing calls.
+#![tactic(auto)]
+
 ghost use Rattle.std.specs.Prelude.{◌≡◌, length};
 ghost use Rattle.scope_table.specs.Answer.{numbered_change};
 ghost use Rattle.scope_table.specs.Lent.{given, lent_of};

@@ -13,6 +13,7 @@
 //
 // A resolver is lent as its text, its records and its head. What is lent may be shorter than the capacity: what is missing is
 // unused and zero, so that a call costs what is lent and no more.
+#![tactic(auto)]
 
 ghost use Rattle.std.specs.Prelude.{◌≡◌, true, ◌&&◌, leb, ◌+◌, ◌-◌, ◌≤◌, [], ◌∷◌, length, take, drop};
 ghost use Rattle.scan.specs.Bytes.{same_bytes};
@@ -30,7 +31,7 @@ pub type Records = [usize; NamespaceResolver::NUMBERS];
 
 // One record, `NamespaceBinding` of src/name.rs: where the text of its binding starts, how long prefix and value are, and the
 // level that it was made at.
-#[derive(Drop)]
+#[derive(Clone, Copy)]
 pub struct NamespaceBinding {
     pub start: usize,
     pub prefix_len: usize,
@@ -39,7 +40,7 @@ pub struct NamespaceBinding {
 }
 
 // What a resolver has beside its arrays.
-#[derive(Drop)]
+#[derive(Clone, Copy)]
 pub struct Head {
     // bytes of text and records in use
     pub used: usize,
@@ -51,7 +52,7 @@ pub struct Head {
 }
 
 // `NamespaceResolver` of src/name.rs.
-#[derive(Drop)]
+#[derive(Clone, Copy)]
 pub struct NamespaceResolver {
     // the text of each binding after that of the one before: its prefix, then its value
     pub text: Text,
@@ -63,7 +64,7 @@ pub struct NamespaceResolver {
 // fixed tables add, and two answers of lent memory alone, which no resolver of full size gives. Each case with an input that
 // gives it. The two numbers of 12 to 15 are the bounds of the text that the crate's error holds: in the tag for `push`, in
 // the argument itself for `add`.
-#[derive(Drop)]
+#[derive(Clone, Copy)]
 pub enum NamespaceResult {
     Done,
     // 12: `xmlns:xml="u"`, the value
@@ -91,14 +92,14 @@ pub enum NamespaceResult {
 }
 
 // An answer, and the resolver that it leaves.
-#[derive(Drop)]
+#[derive(Clone, Copy)]
 pub struct Changed {
     pub answer: NamespaceResult,
     pub resolver: NamespaceResolver,
 }
 
 // An answer, and the head that a call on lent memory leaves.
-#[derive(Drop)]
+#[derive(Clone, Copy)]
 pub struct Outcome {
     pub answer: NamespaceResult,
     pub head: Head,
@@ -106,7 +107,7 @@ pub struct Outcome {
 
 // What a call finds before it goes on: a resolver of the form that it asks for; another, which is 20; or memory that does not
 // hold what its head says, which is 99.
-#[derive(Drop)]
+#[derive(Clone, Copy)]
 pub enum Form {
     Good,
     Bad,
@@ -127,7 +128,7 @@ impl Form {
 }
 
 // An answer as numbers, for a function that can hand out no enum: its number, and its values, 0 where it has none.
-#[derive(Drop)]
+#[derive(Clone, Copy)]
 pub struct Told {
     pub number: usize,
     pub first: usize,

@@ -3,6 +3,8 @@
 // The crate's iterator is asked once for each attribute. Here its state is tested once a call, and `next`'s step is taken
 // on the lent tables, so that nothing is copied and nothing is cleared between tags: what a program that reads many tags
 // calls.
+#![tactic(auto)]
+
 ghost use Rattle.std.specs.Prelude.{◌≡◌, [], ◌∷◌, ◌+◌, ◌≤◌, ◌<◌, length, ltb};
 ghost use Rattle.scan.specs.First.{pick};
 ghost use Rattle.scan.specs.Lists.{over};
@@ -14,7 +16,7 @@ ghost use Rattle.tag_batch.specs.declared.Why.TheVariants.{OutFull, AtEnd};
 use tag_step::{Answer, Place, Span, Standing, Stepped};
 
 // Why a batch has no more answers.
-#[derive(Drop)]
+#[derive(Clone, Copy)]
 pub enum Why {
     // `out` has no room for another.
     OutFull,
@@ -26,7 +28,7 @@ pub enum Why {
 }
 
 // What a batch leaves.
-#[derive(Drop)]
+#[derive(Clone, Copy)]
 pub enum Batch {
     // This many answers were written; the place and the number of recorded keys with which the next call goes on.
     Read(usize, Place, usize, Why),
@@ -48,7 +50,7 @@ impl Why {
 }
 
 // An answer as five numbers.
-#[derive(Drop)]
+#[derive(Clone, Copy)]
 pub struct Five {
     pub code: usize,
     pub a: usize,

@@ -7,6 +7,8 @@
 //
 // No function over a struct that holds a reference is proved by itself: each one here has a walk of its code under proofs/.
 // `first` takes a plain slice and a number, so that its callers need none.
+#![tactic(auto)]
+
 ghost use Rattle.std.specs.Prelude.{◌≡◌, true, false};
 ghost use Rattle.tag_step.specs.Next.{next_of, opened};
 ghost use Rattle.tag_step.specs.Numbers.{numbers_of};
@@ -16,7 +18,7 @@ ghost use Rattle.tag_carried.specs.Held.{opened_on, checked_as, answer_of, after
 use tag_step::{Answer, IterState};
 
 // A tag and the state of the iterator over it: `Attributes` of the crate, which calls the tag `buf`.
-#[derive(Drop)]
+#[derive(Clone, Copy)]
 pub struct Attributes<'a> {
     pub tag: &'a [u8],
     pub state: IterState,

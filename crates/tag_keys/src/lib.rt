@@ -4,6 +4,8 @@
 // tables of the keys' starts and ends and a count. Its hash set, from the 33rd key, is not ported: a third table keeps each
 // key's hash, and a key is compared only with those of its own hash. `filtered_agrees` (proofs/Filter.antt) says that this
 // finds what a comparison with every recorded key finds, whatever the hash.
+#![tactic(auto)]
+
 ghost use Rattle.std.specs.Prelude.{◌≡◌, false, ℕ, ◌+◌, ◌≤◌, ◌<◌, length};
 ghost use Rattle.scan.specs.First.{first_to, pick};
 ghost use Rattle.scan.specs.Bytes.{part};
@@ -21,7 +23,7 @@ const BLOCK: usize = 16;
 pub const SIEVE_WORDS: usize = 32;
 
 // A key: where it stands in the tag, and its hash.
-#[derive(Drop)]
+#[derive(Clone, Copy)]
 pub struct Hashed {
     pub start: usize,
     pub end: usize,
@@ -29,7 +31,7 @@ pub struct Hashed {
 }
 
 // What a search of the recorded keys finds.
-#[derive(Drop)]
+#[derive(Clone, Copy)]
 pub enum Earlier {
     // the start of the oldest recorded key with the same bytes
     At(usize),
@@ -37,7 +39,7 @@ pub enum Earlier {
 }
 
 // The verdict on a key that is due to be recorded.
-#[derive(Drop)]
+#[derive(Clone, Copy)]
 pub enum Checked {
     // It is new. This many keys are recorded now: one more than before, or as many while checks are off.
     Fresh(usize),

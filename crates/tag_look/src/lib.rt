@@ -3,6 +3,8 @@
 // A tag that arrives in pieces is read as far as it is held: a step that looks at or past the end of what is held has to wait for
 // more. This is `look_of` of crates/tag_step/specs/Look.antt; it writes nothing, so that a reader which has to wait leaves
 // everything as it was.
+#![tactic(auto)]
+
 ghost use Rattle.std.specs.Prelude.{◌≡◌, ◌<◌, ◌≤◌, length};
 ghost use Rattle.tag_keys.specs.Keys.{KeysIn};
 ghost use Rattle.tag_step.specs.Next.{keys_lent, check_of};

@@ -1,13 +1,15 @@
 // What is read off an answer of the iterator: the bytes of its key and of its value, and what a value says.
 //
 // Ports of `Attribute`, src/events/attributes.rs, its `key` and `value` as parts of the tag, and `as_bool`.
+#![tactic(auto)]
+
 ghost use Rattle.std.specs.Prelude.{◌≡◌};
 ghost use Rattle.tag_parts.specs.Parts.{key_part, value_part, truth_of, truth_number};
 
 use tag_step::Answer;
 
 // What a value says: `Attribute::as_bool`.
-#[derive(Drop)]
+#[derive(Clone, Copy)]
 pub enum Truth {
     Yes,
     No,

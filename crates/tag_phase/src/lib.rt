@@ -3,6 +3,8 @@
 // Each piece carries the phase over its own bytes alone. A phase saves time and decides nothing: what it lets through is looked
 // at by `tag_look::look_in`, and where it waits there is no answer yet (`waits_look`, proofs/Truth.antt, for the phases that
 // pieces leave).
+#![tactic(auto)]
+
 ghost use Rattle.std.specs.Prelude.{◌≡◌};
 ghost use Rattle.scan.specs.First.{pick};
 ghost use Rattle.tag_keys.specs.Keys.{KeysIn};
@@ -14,7 +16,7 @@ use tag_keys::Checked;
 use tag_step::{Place, Span, Standing};
 
 // Where the scan stands at the end of what is held. A key that is in it is its bounds.
-#[derive(Drop)]
+#[derive(Clone, Copy)]
 pub enum Phase {
     // Nothing is known: the scan begins at the place.
     Begin,
@@ -39,7 +41,7 @@ pub enum Phase {
 }
 
 // Whether a phase waits, as far as it can tell without the recorded keys.
-#[derive(Drop)]
+#[derive(Clone, Copy)]
 pub enum Waiting {
     Never,
     Always,

@@ -6,6 +6,8 @@
 //
 // Here are its parts, and a piece on text that a caller lends. The crate `tag_takes` takes answers in lent memory, the crate
 // `reader` has it all by value.
+#![tactic(auto)]
+
 ghost use Rattle.std.specs.Prelude.{◌≡◌};
 ghost use Rattle.tag_pieces.specs.Reader.{fed_number, fed_of, is_accepted, grown, piece_in};
 
@@ -17,7 +19,7 @@ use tag_step::{Answer, Place};
 pub const HOLD: usize = 65536;
 
 // A reader with its own memory. The first `held` bytes of `text` are held.
-#[derive(Drop)]
+#[derive(Clone, Copy)]
 pub struct Reader {
     pub text: [u8; HOLD],
     pub held: usize,
@@ -33,7 +35,7 @@ pub struct Reader {
 }
 
 // What a reader has beside its text and its key tables.
-#[derive(Drop)]
+#[derive(Clone, Copy)]
 pub struct Cursor {
     pub place: Place,
     pub html: bool,
@@ -47,7 +49,7 @@ pub struct Cursor {
 }
 
 // What becomes of a piece, or of a finish.
-#[derive(Drop)]
+#[derive(Clone, Copy)]
 pub enum Fed {
     Accepted,
     // 32: the tag is finished already.
@@ -59,14 +61,14 @@ pub enum Fed {
 }
 
 // The reader after a piece or a finish.
-#[derive(Drop)]
+#[derive(Clone, Copy)]
 pub struct Feeding {
     pub fed: Fed,
     pub reader: Reader,
 }
 
 // What `take` gives.
-#[derive(Drop)]
+#[derive(Clone, Copy)]
 pub enum Taken {
     // No answer is ready, and the tag is not finished.
     More,
@@ -76,14 +78,14 @@ pub enum Taken {
 }
 
 // The reader after it.
-#[derive(Drop)]
+#[derive(Clone, Copy)]
 pub struct Take {
     pub taken: Taken,
     pub reader: Reader,
 }
 
 // What a piece leaves, beside the text.
-#[derive(Drop)]
+#[derive(Clone, Copy)]
 pub struct Growth {
     pub fed: Fed,
     pub held: usize,

@@ -7,6 +7,8 @@
 // The names are the crate's. Its `keys: Vec<Range<usize>>` is three tables and a count here, its `Option` and `Result` an
 // enum for each kind of answer. Documents number the refusals: `numbers_of` (specs/Numbers.antt) gives an answer's number
 // and values.
+#![tactic(auto)]
+
 ghost use Rattle.std.specs.Prelude.{◌≡◌, true, ◌+◌, ◌^◌, ◌<◌, ◌≤◌, length, replicate};
 ghost use Rattle.tag_step.specs.Numbers.{numbered_step};
 ghost use Rattle.tag_step.specs.Read.{is_quote, skip_of, recover_of, key_at, closed_of, quoted_of, value_at};
@@ -18,14 +20,14 @@ ghost use Rattle.tag_keys.specs.Keys.{capacity, KeysIn};
 use tag_keys::{CAPACITY, Checked, Hashed, SIEVE_WORDS};
 
 // Where a key or a value stands in the tag: `Range<usize>` of the crate, the end not included.
-#[derive(Drop)]
+#[derive(Clone, Copy)]
 pub struct Span {
     pub start: usize,
     pub end: usize,
 }
 
 // Where reading goes on: `State` of the crate.
-#[derive(Drop)]
+#[derive(Clone, Copy)]
 pub enum Place {
     // Reading has ended.
     Done,
@@ -38,7 +40,7 @@ pub enum Place {
 }
 
 // One answer: an attribute (`Attr`), a refusal (`AttrError`), or the end (`None`). Each case with an input that gives it.
-#[derive(Drop)]
+#[derive(Clone, Copy)]
 pub enum Answer {
     // Nothing is left.
     End,
@@ -68,7 +70,7 @@ pub enum Answer {
 }
 
 // The state of an iterator: `IterState` of the crate. The recorded keys are the first `count` of `starts`, `ends` and `hashes`.
-#[derive(Drop)]
+#[derive(Clone, Copy)]
 pub struct IterState {
     pub place: Place,
     pub html: bool,
@@ -80,7 +82,7 @@ pub struct IterState {
 }
 
 // What an iterator has beside its key tables.
-#[derive(Drop)]
+#[derive(Clone, Copy)]
 pub struct Standing {
     pub place: Place,
     pub html: bool,
@@ -90,14 +92,14 @@ pub struct Standing {
 }
 
 // An answer, and the state that it leaves.
-#[derive(Drop)]
+#[derive(Clone, Copy)]
 pub struct Step {
     pub answer: Answer,
     pub state: IterState,
 }
 
 // Where the search for the next key begins: the `Option<usize>` that the crate's `recover` gives.
-#[derive(Drop)]
+#[derive(Clone, Copy)]
 pub enum Start {
     From(usize),
     Ended,
@@ -105,7 +107,7 @@ pub enum Start {
 
 // What stands where a key is looked for: none, a key with no `=` after it and the place of what follows, or a key and
 // the place of its `=`.
-#[derive(Drop)]
+#[derive(Clone, Copy)]
 pub enum KeyRead {
     NoKey,
     Bare(Span, usize),
@@ -113,14 +115,14 @@ pub enum KeyRead {
 }
 
 // What a value or a bare key gives: an answer, and the place that it leaves.
-#[derive(Drop)]
+#[derive(Clone, Copy)]
 pub struct Found {
     pub answer: Answer,
     pub place: Place,
 }
 
 // What a step on lent tables makes: the answer, the place that it leaves, and how many keys are recorded.
-#[derive(Drop)]
+#[derive(Clone, Copy)]
 pub struct Advance {
     pub answer: Answer,
     pub place: Place,
@@ -128,7 +130,7 @@ pub struct Advance {
 }
 
 // What a step on tables of any length gives.
-#[derive(Drop)]
+#[derive(Clone, Copy)]
 pub enum Stepped {
     Made(Advance),
     // The next key is due to be recorded, and no place is lent for it: nothing is changed. The caller lends longer tables,

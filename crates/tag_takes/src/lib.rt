@@ -2,6 +2,8 @@
 //
 // Its state is tested once a call, as in `tag_batch::read_batch`. While the tag is not finished each step is preceded by a look, and
 // nothing is written where an answer is not ready.
+#![tactic(auto)]
+
 ghost use Rattle.std.specs.Prelude.{◌≡◌, not, ◌&&◌, ◌≤◌, length, replicate, ltb};
 ghost use Rattle.scan.specs.First.{pick};
 ghost use Rattle.scan.specs.Lists.{over};
@@ -22,7 +24,7 @@ use tag_pieces::{Cursor, HOLD};
 use tag_step::{Answer, Place, Standing, Stepped};
 
 // What many answers in one call leave, beside the memory.
-#[derive(Drop)]
+#[derive(Clone, Copy)]
 pub enum Took {
     // This many were written, the reader then, and why there are no more: `Why::AtEnd` is more while the tag is not finished.
     Read(usize, Cursor, Why),

@@ -11,8 +11,7 @@ use core::hash::{Hash, Hasher};
 
 pub use resolver::{
     DEFAULT_MAX_NAMESPACE_BINDINGS, Holder, Lent, Memory, NamespaceBindingsIter,
-    NamespaceBindingsOfLevelIter, NamespaceResolver, Owned, ResolvedNames,
-    ResolvedNamesWithSecondColon, Room,
+    NamespaceBindingsOfLevelIter, NamespaceResolver, Owned, ResolvedNames, Room,
 };
 
 /// A declaration that isn't accepted, or a prefix that none declares.
@@ -160,29 +159,6 @@ impl<'a> QName<'a> {
         }
         let (prefix, local) = self.0.split_at(colon + 1);
         (LocalName(local), Some(Prefix { with_colon: prefix }))
-    }
-
-    /// Where the name has its second colon, the first one of the local name, if that has any: an index in the name, and
-    /// not in the local name. quick-xml has no such method.
-    ///
-    /// Namespaces in XML 1.0 allows one colon in a name. One with more is read all the same, as in quick-xml: what follows
-    /// the first colon is the local name.
-    ///
-    /// ```
-    /// # use mezzulidda::name::QName;
-    /// let name = QName("v:chunk:id");
-    /// assert_eq!(name.local_name().into_inner(), "chunk:id");
-    /// assert_eq!(name.second_colon(), Some(7));
-    /// assert_eq!(name.into_inner().find(':'), Some(1));
-    ///
-    /// assert_eq!(QName("v:chunk").second_colon(), None);
-    /// assert_eq!(QName("v:").second_colon(), None);
-    /// assert_eq!(QName("::").second_colon(), Some(1));
-    /// ```
-    #[inline]
-    pub fn second_colon(&self) -> Option<usize> {
-        let at = ffi::second_colon(self.0.as_bytes());
-        (at < self.0.len()).then_some(at)
     }
 
     /// What an attribute of this name declares. The prefix may be empty: nothing is judged here.

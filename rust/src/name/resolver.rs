@@ -305,8 +305,7 @@ impl<M: Holder> NamespaceResolver<M> {
         name: QName<'n>,
         use_default: bool,
     ) -> (ResolveResult<'_>, LocalName<'n>) {
-        let (resolved, local, _) = self.resolve_with_second_colon(name, use_default);
-        (resolved, local)
+        (self.resolved(name.0, use_default), name.local_name())
     }
 
     /// The namespace of an element's name.
@@ -321,76 +320,11 @@ impl<M: Holder> NamespaceResolver<M> {
         self.resolve(name, false)
     }
 
-    /// As [`resolve`](Self::resolve), and where the name has its [second colon](QName::second_colon), if it has one: an
-    /// index in the name. It is told with every answer, also where the prefix is unknown. quick-xml has no such method; what
-    /// is answered beside it is what `resolve` answers, by the same call of the library.
-    ///
-    /// ```
-    /// use mezzulidda::name::{NamespaceResolver, QName, ResolveResult};
-    ///
-    /// let resolver = NamespaceResolver::default();
-    /// let (namespace, local, second) = resolver.resolve_with_second_colon(QName("v:chunk:id"), true);
-    /// assert_eq!(namespace, ResolveResult::Unknown("v".to_string()));
-    /// assert_eq!((local.into_inner(), second), ("chunk:id", Some(7)));
-    /// assert_eq!(resolver.resolve_with_second_colon(QName("xml:lang"), true).2, None);
-    /// ```
-    #[inline]
-    pub fn resolve_with_second_colon<'n>(
-        &self,
-        name: QName<'n>,
-        use_default: bool,
-    ) -> (ResolveResult<'_>, LocalName<'n>, Option<usize>) {
-        let memory = self.memory();
-        let told = memory.resolve(name.0.as_bytes(), use_default);
-        with_second_colon(memory, name, told)
-    }
-
-    /// As [`resolve_element`](Self::resolve_element), and
-    /// [where the name has its second colon](Self::resolve_with_second_colon).
-    ///
-    /// ```
-    /// use mezzulidda::events::BytesStart;
-    /// use mezzulidda::name::{Namespace, NamespaceResolver, QName, ResolveResult};
-    ///
-    /// let mut resolver = NamespaceResolver::default();
-    /// resolver.push(&BytesStart::from_content("v:volume:old xmlns:v='urn:b'", 12)).unwrap();
-    /// let (namespace, local, second) = resolver.resolve_element_with_second_colon(QName("v:volume:old"));
-    /// assert_eq!(namespace, ResolveResult::Bound(Namespace("urn:b")));
-    /// assert_eq!((local.into_inner(), second), ("volume:old", Some(8)));
-    /// ```
-    #[inline]
-    pub fn resolve_element_with_second_colon<'n>(
-        &self,
-        name: QName<'n>,
-    ) -> (ResolveResult<'_>, LocalName<'n>, Option<usize>) {
-        self.resolve_with_second_colon(name, true)
-    }
-
-    /// As [`resolve_attribute`](Self::resolve_attribute), and
-    /// [where the name has its second colon](Self::resolve_with_second_colon).
-    ///
-    /// ```
-    /// use mezzulidda::name::{NamespaceResolver, QName};
-    ///
-    /// let resolver = NamespaceResolver::default();
-    /// let second = |name| resolver.resolve_attribute_with_second_colon(QName(name)).2;
-    /// assert_eq!([second("xml:a:b"), second("xml:a"), second("a")], [Some(5), None, None]);
-    /// ```
-    #[inline]
-    pub fn resolve_attribute_with_second_colon<'n>(
-        &self,
-        name: QName<'n>,
-    ) -> (ResolveResult<'_>, LocalName<'n>, Option<usize>) {
-        self.resolve_with_second_colon(name, false)
-    }
-
     /// The namespace that a prefix is bound to or, where there is no prefix, the default one if that is
     /// wanted.
     pub fn resolve_prefix(&self, prefix: Option<Prefix>, use_default: bool) -> ResolveResult<'_> {
         // a prefix with its colon is a name of that prefix, and the empty name is one without any
-        let name = prefix.map_or("", |prefix| prefix.with_colon);
-        let memory = self.memory();
-        resolved(memory, name, memory.resolve(name.as_bytes(), use_default))
+        self.resolved(prefix.map_or("", |prefix| prefix.with_colon), use_default)
     }
 
     /// As [`resolve`](Self::resolve), of a name that need not be text: the namespace if it is in one, or its
@@ -407,33 +341,12 @@ impl<M: Holder> NamespaceResolver<M> {
         &self,
         name: &'n [u8],
         use_default: bool,
-    ) -> (Found<'_, 'n, [u8]>, &'n [u8]) {
-        let (found, local, _) = self.resolve_bytes_with_second_colon(name, use_default);
-        (found, local)
-    }
-
-    /// As [`resolve_bytes`](Self::resolve_bytes), and
-    /// [where the name has its second colon](Self::resolve_with_second_colon).
-    ///
-    /// ```
-    /// use mezzulidda::name::NamespaceResolver;
-    ///
-    /// let resolver = NamespaceResolver::default();
-    /// let (found, local, second) = resolver.resolve_bytes_with_second_colon(b"\xff:\xfe:id", true);
-    /// assert_eq!((found, local, second), (Err(&b"\xff"[..]), &b"\xfe:id"[..], Some(3)));
-    /// ```
-    pub fn resolve_bytes_with_second_colon<'n>(
-        &self,
-        name: &'n [u8],
-        use_default: bool,
-    ) -> (Found<'_, 'n, [u8]>, &'n [u8], Option<usize>) {
+    ) -> (Result<Option<Namespace<'_>>, &'n [u8]>, &'n [u8]) {
         let memory = self.memory();
-        let told = memory.resolve(name, use_default);
         let local = name.get(ffi::split(name) + 1..).unwrap_or(name);
         (
-            found(memory, name, told),
+            found(memory, name, memory.resolve(name, use_default)),
             local,
-            second_of(told, name.len()),
         )
     }
 
@@ -443,12 +356,17 @@ impl<M: Holder> NamespaceResolver<M> {
         self.memory.view()
     }
 
+    #[inline]
+    fn resolved(&self, name: &str, use_default: bool) -> ResolveResult<'_> {
+        let memory = self.memory();
+        resolved(memory, name, memory.resolve(name.as_bytes(), use_default))
+    }
+
     /// The namespace of a tag's own name, and then those of names that stand in the tag, as the keys of
     /// its attributes do: each is what [`resolve_element`](Self::resolve_element) answers for the first
     /// and [`resolve_attribute`](Self::resolve_attribute) for the others.
     ///
-    /// The memory is tested once for 16 names where each of these tests it anew. Where a name has its second colon is told
-    /// by [`ResolvedNames::with_second_colon`].
+    /// The memory is tested once for 16 names where each of these tests it anew.
     ///
     /// ```
     /// use mezzulidda::events::BytesStart;
@@ -483,16 +401,13 @@ impl<M: Holder> NamespaceResolver<M> {
     }
 }
 
-/// The namespace of a name, if it is in one, or the prefix that nothing binds.
-type Found<'r, 'n, N> = Result<Option<Namespace<'r>>, &'n N>;
-
-/// What the library answers for a name.
+/// What the library answers for a name: its namespace, if it is in one, or the prefix that nothing binds.
 #[inline]
 fn found<'r, 'n, N>(
     memory: View<'r>,
     name: &'n N,
-    (answer, [from, to, _]): (usize, Detail),
-) -> Found<'r, 'n, N>
+    (answer, [from, to]): (usize, Detail),
+) -> Result<Option<Namespace<'r>>, &'n N>
 where
     N: Index<Range<usize>, Output = N> + ?Sized,
 {
@@ -512,26 +427,6 @@ fn resolved<'r>(memory: View<'r>, name: &str, answer: (usize, Detail)) -> Resolv
         Ok(Some(namespace)) => ResolveResult::Bound(namespace),
         Err(prefix) => unknown(prefix),
     }
-}
-
-/// The second colon that the library tells of a name of this length.
-#[inline]
-fn second_of((_, [_, _, at]): (usize, Detail), len: usize) -> Option<usize> {
-    (at < len).then_some(at)
-}
-
-/// All that the library tells of a name.
-#[inline]
-fn with_second_colon<'r, 'n>(
-    memory: View<'r>,
-    name: QName<'n>,
-    told: (usize, Detail),
-) -> (ResolveResult<'r>, LocalName<'n>, Option<usize>) {
-    (
-        resolved(memory, name.0, told),
-        name.local_name(),
-        second_of(told, name.0.len()),
-    )
 }
 
 #[cold]
@@ -557,7 +452,7 @@ fn shown<'a>(
 /// The library's answer to a declaration, with what its bounds are of.
 fn refusal(
     answer: usize,
-    [from, to, _]: Detail,
+    [from, to]: Detail,
     namespace: &[u8],
     prefix: &[u8],
 ) -> Result<(), NamespaceError> {
@@ -625,45 +520,7 @@ pub struct ResolvedNames<'r, 'n> {
     filled: usize,
 }
 
-impl<'r, 'n> ResolvedNames<'r, 'n> {
-    /// The same, and beside each name [where it has its second colon](QName::second_colon), if it has one: an index in the
-    /// name, and not in the tag.
-    ///
-    /// ```
-    /// use mezzulidda::events::BytesStart;
-    /// use mezzulidda::name::NamespaceResolver;
-    ///
-    /// let tag = BytesStart::from_content("v:chunk v:id:old='c-17' id='17'", 7);
-    /// let resolver = NamespaceResolver::default();
-    /// let keys: Vec<_> = tag.attributes().map(|a| a.unwrap().key).collect();
-    /// let names = resolver.resolve_all(&tag, &keys).with_second_colon();
-    /// let told: Vec<_> = names.map(|(_, local, second)| (local.into_inner(), second)).collect();
-    /// assert_eq!(told, [("chunk", None), ("id:old", Some(4)), ("id", None)]);
-    /// ```
-    pub const fn with_second_colon(self) -> ResolvedNamesWithSecondColon<'r, 'n> {
-        ResolvedNamesWithSecondColon { names: self }
-    }
-
-    /// The next name, and what the library tells of it.
-    #[inline]
-    fn next_told(&mut self) -> Option<(QName<'n>, (usize, Detail))> {
-        let name = *self.own.as_ref().or(self.keys.first())?;
-        if self.taken == self.filled {
-            self.fill();
-        }
-        let told = if self.taken < self.filled {
-            self.taken += 1;
-            self.answers.get(self.taken - 1)
-        } else {
-            // a name of another tag is asked for alone
-            self.memory.resolve(name.0.as_bytes(), self.own.is_some())
-        };
-        if self.own.take().is_none() {
-            self.keys = &self.keys[1..];
-        }
-        Some((name, told))
-    }
-
+impl<'n> ResolvedNames<'_, 'n> {
     /// Asks for the names that follow, as far as they stand in the tag.
     fn fill(&mut self) {
         let mut bounds = [[0; NAMES]; 2];
@@ -699,8 +556,21 @@ impl<'r, 'n> Iterator for ResolvedNames<'r, 'n> {
 
     #[inline]
     fn next(&mut self) -> Option<Self::Item> {
-        let (name, told) = self.next_told()?;
-        Some((resolved(self.memory, name.0, told), name.local_name()))
+        let name = *self.own.as_ref().or(self.keys.first())?;
+        if self.taken == self.filled {
+            self.fill();
+        }
+        let answer = if self.taken < self.filled {
+            self.taken += 1;
+            self.answers.get(self.taken - 1)
+        } else {
+            // a name of another tag is asked for alone
+            self.memory.resolve(name.0.as_bytes(), self.own.is_some())
+        };
+        if self.own.take().is_none() {
+            self.keys = &self.keys[1..];
+        }
+        Some((resolved(self.memory, name.0, answer), name.local_name()))
     }
 
     fn size_hint(&self) -> (usize, Option<usize>) {
@@ -720,29 +590,6 @@ impl Debug for ResolvedNames<'_, '_> {
             .finish()
     }
 }
-
-/// The namespaces of a tag's names, with their second colons: see [`ResolvedNames::with_second_colon`].
-#[derive(Debug, Clone)]
-pub struct ResolvedNamesWithSecondColon<'r, 'n> {
-    names: ResolvedNames<'r, 'n>,
-}
-
-impl<'r, 'n> Iterator for ResolvedNamesWithSecondColon<'r, 'n> {
-    type Item = (ResolveResult<'r>, LocalName<'n>, Option<usize>);
-
-    #[inline]
-    fn next(&mut self) -> Option<Self::Item> {
-        let (name, told) = self.names.next_told()?;
-        Some(with_second_colon(self.names.memory, name, told))
-    }
-
-    fn size_hint(&self) -> (usize, Option<usize>) {
-        self.names.size_hint()
-    }
-}
-
-impl ExactSizeIterator for ResolvedNamesWithSecondColon<'_, '_> {}
-impl FusedIterator for ResolvedNamesWithSecondColon<'_, '_> {}
 
 /// What a listing shows, if that is not its end; the place goes past it.
 fn next_of<'a>(

@@ -26,14 +26,8 @@ returns_3 c =
 returns_4 : tie.Need-returns-4
 unfolding alike_of
 returns_4 c =
-    let a = c.before.before.before.before.args in
-    rw (eq-eqb (length a.to.now) (length a.from.now) c.before.before.before.if1.false, eq-eqb (length a.kinds.now) (length a.from.now) c.before.before.if2.false, eq-eqb (length a.begins.now) (length a.from.now) c.before.if3.false, ne_eqb (length a.ends.now) (length a.from.now) c.if4.true)
-
-returns_5 : tie.Need-returns-5
-unfolding alike_of
-returns_5 c =
-    let a = c.before.before.before.before.args in
-    rw (eq-eqb (length a.to.now) (length a.from.now) c.before.before.before.if1.false, eq-eqb (length a.kinds.now) (length a.from.now) c.before.before.if2.false, eq-eqb (length a.begins.now) (length a.from.now) c.before.if3.false, eq-eqb (length a.ends.now) (length a.from.now) c.if4.false)
+    let a = c.before.before.before.args in
+    rw (eq-eqb (length a.to.now) (length a.from.now) c.before.before.if1.false, eq-eqb (length a.kinds.now) (length a.from.now) c.before.if2.false, eq-eqb (length a.begins.now) (length a.from.now) c.if3.false)
 
 pub alike_spec : {M : Type 1} → statement M
-alike_spec = tie.close (tie.spec returns returns_2 returns_3 returns_4 returns_5)
+alike_spec = tie.close (tie.spec returns returns_2 returns_3 returns_4)

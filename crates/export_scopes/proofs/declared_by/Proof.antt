@@ -1,5 +1,5 @@
 -- `export_scopes::declared_by` meets its contract.
-use Rattle.export_scopes.specs.Declared.{declared_by}
+use Rattle.export_scopes.specs.OneDeclaration.{declared_by}
 use Rattle.export_scopes.proofs.declared_by.Statement.{statement}
 use Rattle.export_scopes.proofs.declared_by.Tie as tie
 

@@ -2,7 +2,7 @@
 use Rattle.export_memory.proofs.Calls.{change_made}
 use Rattle.scope_table.specs.Lent.{lent_of}
 use Rattle.scope_declare.specs.Declare.{add_of}
-use Rattle.export_scopes.specs.Declared.{declared_by}
+use Rattle.export_scopes.specs.OneDeclaration.{declared_by}
 use borrow.Author.Rules.{rules}
 use Rattle.export_scopes.proofs.mz_add.Statement.{statement}
 use Rattle.export_scopes.proofs.mz_add.Tie as tie

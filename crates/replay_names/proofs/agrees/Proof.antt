@@ -3,14 +3,11 @@ use mathlib.Core.Path.{sym, ap, ◌∙◌}
 use borrow.Author.Tests.{not-true, not-false}
 use Rattle.scan.proofs.Bytes.{and_on, and_off}
 use Rattle.name.specs.Declares.{declares_number}
-use Rattle.replay_names.specs.Replay.{colon_number, name_agrees}
+use Rattle.replay_names.specs.Replay.{name_agrees}
 use Rattle.replay_names.proofs.Laws.{told}
 use borrow.Author.Rules.{rules}
 use Rattle.replay_names.proofs.agrees.Statement.{statement}
 use Rattle.replay_names.proofs.agrees.Tie as tie
-
-index_requires : tie.Need-index-requires
-index_requires c κs = search rules
 
 colon_number_requires : tie.Need-colon-number-requires
 colon_number_requires c κs = search rules
@@ -20,20 +17,7 @@ is_two_requires c κs = search rules
 
 returns : tie.Need-returns
 unfolding name_agrees
-returns c = and_off _ (told _ c.before.is-two.ensures (c.before.before.colon-number.ensures ∙ ap colon_number c.before.before.before.index.ensures) ∙ not-true _ c.if1.true)
-
-second_colon_requires : tie.Need-second-colon-requires
-second_colon_requires c κs = search rules
-
-colon_number_requires_2 : tie.Need-colon-number-requires-2
-colon_number_requires_2 c κs = search rules
-
-is_two_requires_2 : tie.Need-is-two-requires-2
-is_two_requires_2 c κs = search rules
-
-returns_2 : tie.Need-returns-2
-unfolding name_agrees
-returns_2 c = and_on (told _ c.before.before.before.before.before.is-two.ensures (c.before.before.before.before.before.before.colon-number.ensures ∙ ap colon_number c.before.before.before.before.before.before.before.index.ensures) ∙ not-false _ c.before.before.before.before.if1.false) (and_off _ (told _ c.before.is-two2.ensures (c.before.before.colon-number2.ensures ∙ ap colon_number c.before.before.before.second-colon.ensures) ∙ not-true _ c.if2.true))
+returns c = and_off _ (told _ c.before.is-two.ensures c.before.before.colon-number.ensures ∙ not-true _ c.if1.true)
 
 as_namespace_binding_requires : tie.Need-as-namespace-binding-requires
 as_namespace_binding_requires c κs = search rules
@@ -44,19 +28,19 @@ number_requires c κs = search rules
 is_byte_requires : tie.Need-is-byte-requires
 is_byte_requires c κs = search rules
 
-returns_3 : tie.Need-returns-3
+returns_2 : tie.Need-returns-2
 unfolding name_agrees
-returns_3 c = and_on (told _ c.before.before.before.before.before.before.before.before.before.is-two.ensures (c.before.before.before.before.before.before.before.before.before.before.colon-number.ensures ∙ ap colon_number c.before.before.before.before.before.before.before.before.before.before.before.index.ensures) ∙ not-false _ c.before.before.before.before.before.before.before.before.if1.false) (and_on (told _ c.before.before.before.before.before.is-two2.ensures (c.before.before.before.before.before.before.colon-number2.ensures ∙ ap colon_number c.before.before.before.before.before.before.before.second-colon.ensures) ∙ not-false _ c.before.before.before.before.if2.false) (and_off _ (told _ c.before.is_byte_lem.ensures (c.before.before.number.ensures ∙ ap declares_number c.before.before.before.as-namespace-binding.ensures) ∙ not-true _ c.if3.true)))
+returns_2 c = and_on (told _ c.before.before.before.before.before.is-two.ensures c.before.before.before.before.before.before.colon-number.ensures ∙ not-false _ c.before.before.before.before.if1.false) (and_off _ (told _ c.before.is_byte_lem.ensures (c.before.before.number.ensures ∙ ap declares_number c.before.before.before.as-namespace-binding.ensures) ∙ not-true _ c.if2.true))
 
 start_number_requires : tie.Need-start-number-requires
 start_number_requires c κs = search rules
 
-is_two_requires_3 : tie.Need-is-two-requires-3
-is_two_requires_3 c κs = search rules
+is_two_requires_2 : tie.Need-is-two-requires-2
+is_two_requires_2 c κs = search rules
 
-returns_4 : tie.Need-returns-4
+returns_3 : tie.Need-returns-3
 unfolding name_agrees
-returns_4 c = and_on (told _ c.before.before.before.before.before.before.before.before.before.before.before.before.is-two.ensures (c.before.before.before.before.before.before.before.before.before.before.before.before.before.colon-number.ensures ∙ ap colon_number c.before.before.before.before.before.before.before.before.before.before.before.before.before.before.index.ensures) ∙ not-false _ c.before.before.before.before.before.before.before.before.before.before.before.if1.false) (and_on (told _ c.before.before.before.before.before.before.before.before.is-two2.ensures (c.before.before.before.before.before.before.before.before.before.colon-number2.ensures ∙ ap colon_number c.before.before.before.before.before.before.before.before.before.before.second-colon.ensures) ∙ not-false _ c.before.before.before.before.before.before.before.if2.false) (and_on (told _ c.before.before.before.before.is_byte_lem.ensures (c.before.before.before.before.before.number.ensures ∙ ap declares_number c.before.before.before.before.before.before.as-namespace-binding.ensures) ∙ not-false _ c.before.before.before.if3.false) (and_off _ (told _ c.before.is-two3.ensures c.before.before.start-number.ensures ∙ not-true _ c.if4.true))))
+returns_3 c = and_on (told _ c.before.before.before.before.before.before.before.before.is-two.ensures c.before.before.before.before.before.before.before.before.before.colon-number.ensures ∙ not-false _ c.before.before.before.before.before.before.before.if1.false) (and_on (told _ c.before.before.before.before.is_byte_lem.ensures (c.before.before.before.before.before.number.ensures ∙ ap declares_number c.before.before.before.before.before.before.as-namespace-binding.ensures) ∙ not-false _ c.before.before.before.if2.false) (and_off _ (told _ c.before.is-two2.ensures c.before.before.start-number.ensures ∙ not-true _ c.if3.true)))
 
 xml_number_requires : tie.Need-xml-number-requires
 xml_number_requires c κs = search rules
@@ -64,9 +48,9 @@ xml_number_requires c κs = search rules
 is_byte_requires_2 : tie.Need-is-byte-requires-2
 is_byte_requires_2 c κs = search rules
 
-returns_5 : tie.Need-returns-5
+returns_4 : tie.Need-returns-4
 unfolding name_agrees
-returns_5 c = and_on (told _ c.before.before.before.before.before.before.before.before.before.before.before.before.before.before.before.is-two.ensures (c.before.before.before.before.before.before.before.before.before.before.before.before.before.before.before.before.colon-number.ensures ∙ ap colon_number c.before.before.before.before.before.before.before.before.before.before.before.before.before.before.before.before.before.index.ensures) ∙ not-false _ c.before.before.before.before.before.before.before.before.before.before.before.before.before.before.if1.false) (and_on (told _ c.before.before.before.before.before.before.before.before.before.before.before.is-two2.ensures (c.before.before.before.before.before.before.before.before.before.before.before.before.colon-number2.ensures ∙ ap colon_number c.before.before.before.before.before.before.before.before.before.before.before.before.before.second-colon.ensures) ∙ not-false _ c.before.before.before.before.before.before.before.before.before.before.if2.false) (and_on (told _ c.before.before.before.before.before.before.before.is_byte_lem.ensures (c.before.before.before.before.before.before.before.before.number.ensures ∙ ap declares_number c.before.before.before.before.before.before.before.before.before.as-namespace-binding.ensures) ∙ not-false _ c.before.before.before.before.before.before.if3.false) (and_on (told _ c.before.before.before.before.is-two3.ensures c.before.before.before.before.before.start-number.ensures ∙ not-false _ c.before.before.before.if4.false) (and_off _ (told _ c.before.is-byte2.ensures c.before.before.xml-number.ensures ∙ not-true _ c.if5.true)))))
+returns_4 c = and_on (told _ c.before.before.before.before.before.before.before.before.before.before.before.is-two.ensures c.before.before.before.before.before.before.before.before.before.before.before.before.colon-number.ensures ∙ not-false _ c.before.before.before.before.before.before.before.before.before.before.if1.false) (and_on (told _ c.before.before.before.before.before.before.before.is_byte_lem.ensures (c.before.before.before.before.before.before.before.before.number.ensures ∙ ap declares_number c.before.before.before.before.before.before.before.before.before.as-namespace-binding.ensures) ∙ not-false _ c.before.before.before.before.before.before.if2.false) (and_on (told _ c.before.before.before.before.is-two2.ensures c.before.before.before.before.before.start-number.ensures ∙ not-false _ c.before.before.before.if3.false) (and_off _ (told _ c.before.is-byte2.ensures c.before.before.xml-number.ensures ∙ not-true _ c.if4.true))))
 
 xmlns_number_requires : tie.Need-xmlns-number-requires
 xmlns_number_requires c κs = search rules
@@ -74,32 +58,27 @@ xmlns_number_requires c κs = search rules
 is_byte_requires_3 : tie.Need-is-byte-requires-3
 is_byte_requires_3 c κs = search rules
 
-returns_6 : tie.Need-returns-6
+returns_5 : tie.Need-returns-5
 unfolding name_agrees
-returns_6 c = and_on (told _ c.before.before.before.before.before.before.before.before.before.before.before.before.before.before.before.before.before.is-two.ensures (c.before.before.before.before.before.before.before.before.before.before.before.before.before.before.before.before.before.before.colon-number.ensures ∙ ap colon_number c.before.before.before.before.before.before.before.before.before.before.before.before.before.before.before.before.before.before.before.index.ensures) ∙ not-false _ c.before.before.before.before.before.before.before.before.before.before.before.before.before.before.before.before.if1.false) (and_on (told _ c.before.before.before.before.before.before.before.before.before.before.before.before.before.is-two2.ensures (c.before.before.before.before.before.before.before.before.before.before.before.before.before.before.colon-number2.ensures ∙ ap colon_number c.before.before.before.before.before.before.before.before.before.before.before.before.before.before.before.second-colon.ensures) ∙ not-false _ c.before.before.before.before.before.before.before.before.before.before.before.before.if2.false) (and_on (told _ c.before.before.before.before.before.before.before.before.before.is_byte_lem.ensures (c.before.before.before.before.before.before.before.before.before.before.number.ensures ∙ ap declares_number c.before.before.before.before.before.before.before.before.before.before.before.as-namespace-binding.ensures) ∙ not-false _ c.before.before.before.before.before.before.before.before.if3.false) (and_on (told _ c.before.before.before.before.before.before.is-two3.ensures c.before.before.before.before.before.before.before.start-number.ensures ∙ not-false _ c.before.before.before.before.before.if4.false) (and_on (told _ c.before.before.before.is-byte2.ensures c.before.before.before.before.xml-number.ensures ∙ not-false _ c.before.before.if5.false) (sym (told _ c.is-byte3.ensures c.before.xmlns-number.ensures))))))
+returns_5 c = and_on (told _ c.before.before.before.before.before.before.before.before.before.before.before.before.before.is-two.ensures c.before.before.before.before.before.before.before.before.before.before.before.before.before.before.colon-number.ensures ∙ not-false _ c.before.before.before.before.before.before.before.before.before.before.before.before.if1.false) (and_on (told _ c.before.before.before.before.before.before.before.before.before.is_byte_lem.ensures (c.before.before.before.before.before.before.before.before.before.before.number.ensures ∙ ap declares_number c.before.before.before.before.before.before.before.before.before.before.before.as-namespace-binding.ensures) ∙ not-false _ c.before.before.before.before.before.before.before.before.if2.false) (and_on (told _ c.before.before.before.before.before.before.is-two2.ensures c.before.before.before.before.before.before.before.start-number.ensures ∙ not-false _ c.before.before.before.before.before.if3.false) (and_on (told _ c.before.before.before.is-byte2.ensures c.before.before.before.before.xml-number.ensures ∙ not-false _ c.before.before.if4.false) (sym (told _ c.is-byte3.ensures c.before.xmlns-number.ensures)))))
 
 pub agrees_spec : {M : Type 1} → statement M
 agrees_spec =
     tie.close
     (tie.spec
-    index_requires
     colon_number_requires
     is_two_requires
     returns
-    second_colon_requires
-    colon_number_requires_2
-    is_two_requires_2
-    returns_2
     as_namespace_binding_requires
     number_requires
     is_byte_requires
-    returns_3
+    returns_2
     start_number_requires
-    is_two_requires_3
-    returns_4
+    is_two_requires_2
+    returns_3
     xml_number_requires
     is_byte_requires_2
-    returns_5
+    returns_4
     xmlns_number_requires
     is_byte_requires_3
-    returns_6)
+    returns_5)

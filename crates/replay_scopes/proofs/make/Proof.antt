@@ -1,7 +1,7 @@
 -- `replay_scopes::make` meets its contract: each call is the one of its name.
 use mathlib.Core.Path.{◌∙◌}
 use Rattle.scope_table.proofs.Answers.{change_apart}
-use Rattle.scope_lookup.proofs.Numbers.{name_apart}
+use Rattle.scope_lookup.proofs.Numbers.{resolved_apart}
 use Rattle.scope_listing.proofs.Numbers.{listing_apart}
 use Rattle.replay_scopes.specs.Calls.{called_of}
 use borrow.Author.Rules.{rules}
@@ -149,11 +149,11 @@ returns_7 c = c.reset-to2.ensures ∙ rw (c.before.set-max-namespace-bindings.en
 
 returns_8 : tie.Need-returns-8
 unfolding called_of
-returns_8 c = c.looked-up.ensures ∙ rw (name_apart _ _ c.before.resolve-attribute.ensures, c.before.before.enum-told8.given.1)
+returns_8 c = c.looked-up.ensures ∙ rw (resolved_apart _ _ c.before.resolve-attribute.ensures, c.before.before.enum-told8.given.1)
 
 returns_9 : tie.Need-returns-9
 unfolding called_of
-returns_9 c = c.looked-up2.ensures ∙ rw (name_apart _ _ c.before.resolve-element.ensures, c.before.before.enum-told9.given.1)
+returns_9 c = c.looked-up2.ensures ∙ rw (resolved_apart _ _ c.before.resolve-element.ensures, c.before.before.enum-told9.given.1)
 
 returns_10 : tie.Need-returns-10
 unfolding called_of

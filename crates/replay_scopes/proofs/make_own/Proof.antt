@@ -1,6 +1,6 @@
 -- `replay_scopes::make_own` meets its contract: each form answers and leaves what the call by value does.
 use mathlib.Core.Path.{◌∙◌}
-use Rattle.scope_lookup.proofs.Numbers.{name_apart}
+use Rattle.scope_lookup.proofs.Numbers.{resolved_apart}
 use Rattle.replay_scopes.specs.Calls.{called_of}
 use borrow.Author.Rules.{rules}
 use Rattle.replay_scopes.proofs.make_own.Statement.{statement}
@@ -147,11 +147,11 @@ returns_7 c = c.reset-to2.ensures ∙ rw (c.before.set-max-namespace-bindings.en
 
 returns_8 : tie.Need-returns-8
 unfolding called_of
-returns_8 c = c.looked-up.ensures ∙ rw (name_apart _ _ c.before.resolve.ensures, c.before.before.enum-told8.given.1)
+returns_8 c = c.looked-up.ensures ∙ rw (resolved_apart _ _ c.before.resolve.ensures, c.before.before.enum-told8.given.1)
 
 returns_9 : tie.Need-returns-9
 unfolding called_of
-returns_9 c = c.looked-up2.ensures ∙ rw (name_apart _ _ c.before.resolve2.ensures, c.before.before.enum-told9.given.1)
+returns_9 c = c.looked-up2.ensures ∙ rw (resolved_apart _ _ c.before.resolve2.ensures, c.before.before.enum-told9.given.1)
 
 returns_10 : tie.Need-returns-10
 unfolding called_of

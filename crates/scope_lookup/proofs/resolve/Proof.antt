@@ -1,9 +1,8 @@
 -- `scope_lookup::resolve` meets its contract: memory of full size is the resolver itself.
 use mathlib.Core.Path.{ap, ◌∙◌}
 use borrow.Author.Rules.{rules}
-use Rattle.name.specs.declared.Colon.TheVariants.{Nowhere}
 use Rattle.scope_table.proofs.Full.{full_asks}
-use Rattle.scope_lookup.specs.Lookup.{with_colon, resolved_name_of, name_numbers}
+use Rattle.scope_lookup.specs.Lookup.{resolve_of, resolved_numbers}
 use Rattle.scope_lookup.specs.declared.Resolved.TheVariants.{WrongLength}
 use Rattle.scope_lookup.proofs.resolve.Statement.{statement}
 use Rattle.scope_lookup.proofs.resolve.Tie as tie
@@ -14,7 +13,7 @@ resolve_in_requires c κs = search rules
 returns : tie.Need-returns
 returns c =
     let a = c.before.before.before.before.before.before.before.before.args in
-    ap name_numbers (c.resolve-in.ensures ∙ full_asks a.t1.text a.t1.records a.t1.head (search rules) (search rules) (with_colon WrongLength Nowhere) (resolved_name_of a.name.now a.wanted))
+    ap resolved_numbers (c.resolve-in.ensures ∙ full_asks a.t1.text a.t1.records a.t1.head (search rules) (search rules) WrongLength (resolve_of a.name.now a.wanted))
 
 pub resolve_spec : {M : Type 1} → statement M
 resolve_spec = tie.close (tie.spec resolve_in_requires returns)
