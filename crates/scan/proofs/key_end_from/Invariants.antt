@@ -1,0 +1,14 @@
+-- `scan::key_end_from` meets its contract: the answer from `from` is the answer from i. The measure is what is left.
+--
+use Prim.Native.Nat.{◌-◌}
+use mathlib.Core.Path.{◌≡◌}
+use lib.ListN.{length}
+use Rattle.scan.specs.First.{first_from}
+use Rattle.scan.specs.Bytes.{ends_key}
+use Rattle.scan.proofs.key_end_from.Given as goal
+
+abbrev pub invariant-loop-i : goal.invariant-loop-i
+invariant-loop-i l = first_from ends_key l.tag l.from ≡ first_from ends_key l.tag l.i
+
+abbrev pub decreases-loop-i : goal.decreases-loop-i
+decreases-loop-i l = length l.tag - l.i
