@@ -1,32 +1,29 @@
 -- The ways in which a batch comes back, each as what its contract says: tables that are too long, no room, refusal 7, and the
 -- batch of a good state.
-use Prim.Native.Nat.{ℕ, zero, suc, ◌+◌, ◌-◌, ◌/◌, ◌≤◌, ◌<◌}
-use mathlib.Core.Path.{◌≡◌, refl, sym, ap, ◌∙◌}
-use mathlib.Core.Bool.{Bool, true, false, ◌&&◌}
-use mathlib.Core.List.{List, [], ◌∷◌, ◌++◌, append-nil}
+use Prim.Native.Nat.{ℕ, zero, suc, ◌-◌, ◌≤◌, ◌<◌}
+use mathlib.Core.Path.{◌≡◌, refl, sym, ◌∙◌}
+use mathlib.Core.Bool.{Bool, true, false}
+use mathlib.Core.List.{List, [], append-nil}
 use native.Mathlib.Omega.{arith}
 use lib.ListN.{length, replicate, length-replicate}
-use lib.Dec.{leb, ltb}
-use borrow.Author.Tests.{le-leb, lt-leb, lt-ltb, le-ltb, ltb-true, ltb-false}
+use lib.Dec.{ltb}
+use borrow.Author.Tests.{le-leb, lt-leb, lt-ltb, le-ltb}
 use Rattle.scan.specs.First.{pick}
 use Rattle.scan.specs.Lists.{over}
 use Rattle.scan.proofs.Lists.{over_none}
 use Rattle.tag_keys.specs.Keys.{capacity}
 use Rattle.tag_keys.proofs.Laws.{in_table, keys_none}
-use Rattle.tag_step.specs.declared.Place.{Place}
 use Rattle.tag_step.specs.declared.Place.TheVariants.{Done}
-use Rattle.tag_step.specs.declared.Answer.{Answer}
 use Rattle.tag_step.specs.declared.Answer.TheVariants.{End, BadState}
 use Rattle.tag_step.specs.declared.IterState.{IterState}
 use Rattle.tag_step.specs.Read.{found, recover_of}
 use Rattle.tag_step.specs.Next.{reading, keys_lent, place_good, state_good, step_of, step_from, keys_of, lent_state}
-use Rattle.tag_step.specs.Lent.{whole_next, needs_more, stepped_of}
 use Rattle.tag_step.specs.Run.{is_end}
 use Rattle.tag_step.proofs.Lent.{bad_answer, bad_needs, bad_leaves, good_answer, good_needs, good_leaves}
 use Rattle.tag_batch.specs.declared.Why.{Why}
 use Rattle.tag_batch.specs.declared.Why.TheVariants.{OutFull, AtEnd}
 use Rattle.tag_batch.specs.declared.Batch.TheVariants.{Read, WrongTables}
-use Rattle.tag_batch.specs.Batch.{five_of, fives_of, Ran, ran, ahead, ran_of, tables_lent, answers_room, Batched, batched, batch_shown, read_of, batch_of}
+use Rattle.tag_batch.specs.Batch.{five_of, fives_of, ran, ahead, ran_of, tables_lent, answers_room, batched, batch_shown, read_of, batch_of}
 
 module _ (s : List ℕ) (st : IterState) (out : List ℕ) where
   -- Tables of more places than there can be keys.

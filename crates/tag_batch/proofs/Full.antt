@@ -11,16 +11,13 @@ use Rattle.scan.specs.Lists.{over}
 use Rattle.tag_keys.specs.Keys.{capacity}
 use Rattle.tag_step.specs.declared.Answer.{Answer}
 use Rattle.tag_step.specs.declared.IterState.{IterState}
-use Rattle.tag_step.specs.declared.Step.{Step}
 use Rattle.tag_step.specs.Next.{next_of}
-use Rattle.tag_step.specs.Lent.{whole_next, needs_more, stepped_of}
 use Rattle.tag_step.specs.Run.{is_end, cons_unless, run_of}
 use Rattle.tag_step.proofs.Good.{Sized, next_sized}
 use Rattle.tag_step.proofs.Lent.{full_next, full_held, full_leaves}
 use Rattle.tag_batch.specs.declared.Batch.TheVariants.{Read}
-use Rattle.tag_batch.specs.declared.Why.{Why}
-use Rattle.tag_batch.specs.declared.Why.TheVariants.{OutFull, AtEnd, LendMore}
-use Rattle.tag_batch.specs.Batch.{fives_of, left_of, Ran, ran, ahead, ran_of, tables_lent, answers_room, Batched, batched, batch_shown, read_of, batch_of}
+use Rattle.tag_batch.specs.declared.Why.TheVariants.{AtEnd, LendMore}
+use Rattle.tag_batch.specs.Batch.{fives_of, left_of, Ran, ran, ahead, ran_of, tables_lent, answers_room, batched, batch_shown, read_of, batch_of}
 
 -- one step
 full_step : (n : ℕ) (s : List ℕ) (st : IterState) → Sized st → ran_of (suc n) s st ≡ pick (is_end (next_of s st).answer) (ran [] (next_of s st).state AtEnd) (ahead (next_of s st).answer (ran_of n s (next_of s st).state))

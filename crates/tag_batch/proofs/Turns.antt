@@ -1,13 +1,12 @@
 -- What one turn of the batch's loop does: the whole batch is what was written so far, and the batch of what is left.
-use Prim.Native.Nat.{ℕ, zero, suc, ◌+◌, ◌-◌, ◌*◌, ◌/◌, ◌≤◌, ◌<◌}
+use Prim.Native.Nat.{ℕ, zero, suc, ◌+◌, ◌-◌, ◌*◌, ◌≤◌, ◌<◌}
 use mathlib.Core.Path.{◌≡◌, refl, sym, ap, ◌∙◌}
 use mathlib.Core.Bool.{Bool, true, false}
-use mathlib.Core.List.{List, [], ◌∷◌, ◌++◌}
+use mathlib.Core.List.{List, []}
 use native.Mathlib.Omega.{arith}
 use lib.ListN.{length, get_or}
 use lib.Dec.{eqb}
 use borrow.Author.Tests.{eq-eqb, ne_eqb}
-use Rattle.scan.specs.First.{pick}
 use Rattle.scan.specs.Lists.{over}
 use Rattle.scan.proofs.Lists.{over_length, over_none, over_more}
 use Rattle.tag_step.specs.declared.Answer.{Answer}

@@ -6,7 +6,6 @@ use Rattle.scan.specs.Lists.{over}
 use Rattle.tag_keys.specs.Keys.{capacity}
 use Rattle.tag_step.specs.declared.Answer.{Answer}
 use Rattle.tag_step.specs.declared.IterState.{IterState}
-use Rattle.tag_step.specs.declared.Step.{Step}
 use Rattle.tag_step.specs.Next.{state_good, next_of}
 use Rattle.tag_step.specs.Numbers.{numbers_of}
 use Rattle.tag_step.specs.Run.{is_end}

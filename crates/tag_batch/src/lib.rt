@@ -38,6 +38,7 @@ pub enum Batch {
 
 impl Why {
     // 0 for a full output, 1 for the end, 2 where a place is lacking.
+    #[tactic(auto, unfolding(crate::specs::Batch::why_number))]
     pub fn number(self) -> usize
         ensures { result ≡ why_number self }
     {
@@ -79,6 +80,7 @@ fn bounds(code: usize, key: Span, value: Span) -> Five
 }
 
 // Document 01's number of an answer and its values in the table's order, then zeros. Only the end has the number 0.
+#[tactic(auto, unfolding(tag_step::specs::Numbers::numbers_of, crate::specs::Batch::five_of))]
 pub fn numbers(answer: Answer) -> Five
     ensures { listed result ≡ five_of answer }
 {
