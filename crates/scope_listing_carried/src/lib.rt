@@ -4,8 +4,6 @@
 // The work is the plain listings', in the crate `scope_listing`: a step takes the struct apart and puts the place that
 // comes back in its place. The resolver goes there by value: whoever lists often lends its memory to `bindings_in` and
 // `bindings_of_in`.
-//
-// No function over a struct that holds a reference is proved by itself: each one here has a walk of its code under proofs/.
 #![tactic(auto)]
 
 ghost use Rattle.std.specs.Prelude.{◌≡◌};
