@@ -1,13 +1,13 @@
 -- What a call gives on lent memory, for each way in which its answer is found: by what is lent, by the form, or by what the
 -- call makes of the resolver that the memory stands for.
 use Prim.Native.Nat.{ℕ}
-use mathlib.Core.Path.{◌≡◌, refl, sym, ap, ◌∙◌}
-use mathlib.Core.Bool.{Bool, true, false}
+use mathlib.Core.Path.{◌≡◌, sym, ◌∙◌}
+use mathlib.Core.Bool.{true, false}
 use mathlib.Core.List.{List}
 use lib.ListN.{length, take}
 use Rattle.scan.specs.First.{pick}
 use Rattle.scan.proofs.Lists.{pad_take}
-use Rattle.scope_table.specs.Table.{TEXT, NUMBERS, resolver_of, valid_of}
+use Rattle.scope_table.specs.Table.{TEXT, NUMBERS, valid_of}
 use Rattle.scope_table.specs.Answer.{changed}
 use Rattle.scope_table.specs.Lent.{stands_for, fits_of, lent, given, held_of, lent_of, form_of}
 use Rattle.scope_table.specs.declared.Head.{Head}
@@ -16,7 +16,7 @@ use Rattle.scope_table.specs.declared.Changed.{Changed}
 use Rattle.scope_table.specs.declared.NamespaceResult.{NamespaceResult}
 use Rattle.scope_table.specs.declared.NamespaceResult.TheVariants.{BadResolver, LendMore, WrongLength}
 use Rattle.scope_table.specs.declared.Form.TheVariants as Is
-use Rattle.scope_table.proofs.Good.{Fits, Ready, is_wrong, is_bad, ready}
+use Rattle.scope_table.proofs.Good.{Fits, is_wrong, is_bad, ready}
 
 module _ (text records : List ℕ) (head : Head) where
   -- Calls that ask.

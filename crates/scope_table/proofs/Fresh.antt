@@ -1,8 +1,8 @@
 -- The fresh resolver in lent memory: zeros, with the built-ins written over their beginning.
-use Prim.Native.Nat.{ℕ, zero, suc, ◌+◌, ◌-◌, ◌≤◌, ◌<◌}
+use Prim.Native.Nat.{ℕ, zero, suc, ◌+◌, ◌-◌, ◌≤◌}
 use mathlib.Core.Path.{◌≡◌, refl, sym, ap, ◌∙◌}
 use mathlib.Core.Bool.{Bool, true, false, ◌&&◌}
-use mathlib.Core.List.{List, [], ◌∷◌, ◌++◌}
+use mathlib.Core.List.{List, ◌++◌}
 use native.Mathlib.Omega.{arith}
 use lib.Dec.{leb}
 use lib.ListN.{length, take, drop, replicate, length-append, length-replicate, replicate-append-replicate}
@@ -11,7 +11,7 @@ use borrow.Author.Tests.{leb-true, le-leb}
 use Rattle.scan.specs.Bytes.{bytes, bytes_from}
 use Rattle.scan.specs.Lists.{over}
 use Rattle.scope_table.specs.Lists.{all_zero, cut}
-use Rattle.scope_table.specs.Records.{ROW, row_at}
+use Rattle.scope_table.specs.Records.{row_at}
 use Rattle.scope_table.specs.Table.{TEXT, NUMBERS, LIMIT, built_in, built_in_rows, head_of, resolver_of, fresh_of}
 use Rattle.scope_table.specs.Answer.{changed}
 use Rattle.scope_table.specs.Lent.{holds_of, fits_of, given, held_of, fresh_in}

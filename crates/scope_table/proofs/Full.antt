@@ -6,15 +6,14 @@ use mathlib.Core.Bool.{Bool, true, false}
 use mathlib.Core.List.{List}
 use native.Mathlib.Omega.{arith}
 use lib.Dec.{leb}
-use lib.ListN.{length, take}
+use lib.ListN.{length}
 use lib.Seq.{take_all}
 use borrow.Author.Tests.{leb-true, leb-false, le-leb}
 use Rattle.scan.specs.Lists.{pad_to}
 use Rattle.scan.proofs.Lists.{pad_full, pad_pad}
 use Rattle.scope_table.specs.Records.{row_at}
 use Rattle.scope_table.specs.Table.{TEXT, NUMBERS, resolver_of}
-use Rattle.scope_table.specs.Answer.{changed}
-use Rattle.scope_table.specs.Lent.{stands_for, holds_of, fits_of, lent, given, held_of, lent_of}
+use Rattle.scope_table.specs.Lent.{stands_for, holds_of, fits_of, lent, given, lent_of}
 use Rattle.scope_table.specs.declared.Head.{Head}
 use Rattle.scope_table.specs.declared.NamespaceResolver.{NamespaceResolver}
 use Rattle.scope_table.specs.declared.Changed.{Changed}
