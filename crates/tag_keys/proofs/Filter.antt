@@ -6,13 +6,11 @@ use mathlib.Core.Bool.{Bool, true, false, ◌&&◌}
 use mathlib.Core.List.{List}
 use native.Mathlib.Omega.{arith}
 use lib.ListN.{get_or}
-use lib.Dec.{eqb, ltb}
 use borrow.Author.Tests.{eq-eqb, lt-ltb, le-ltb}
-use Rattle.scan.specs.First.{first_to, pick}
+use Rattle.scan.specs.First.{first_to}
 use Rattle.scan.specs.Bytes.{part}
 use Rattle.scan.proofs.Laws.{to_first, to_skip}
 use Rattle.scan.proofs.Bytes.{and_off, same_eq}
-use Rattle.tag_keys.specs.declared.Earlier.{Earlier}
 use Rattle.tag_keys.specs.declared.Earlier.TheVariants.{At, Nothing}
 use Rattle.tag_keys.specs.Keys.{name_at, hash_is, same_key, oldest_of, earlier_of}
 use Rattle.tag_keys.specs.Filter.{passes, filtered_oldest, filtered_of}

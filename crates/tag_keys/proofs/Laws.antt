@@ -2,16 +2,16 @@
 -- and what each verdict leaves. The layers above need no more than these to work with a table.
 use Prim.Native.Nat.{ℕ, ◌+◌, ◌-◌, ◌≤◌, ◌<◌}
 use mathlib.Core.Path.{◌≡◌, refl, sym, ap, subst, ◌∙◌}
-use mathlib.Core.Bool.{Bool, true, false, not, ◌&&◌, true≢false, false≢true}
+use mathlib.Core.Bool.{Bool, true, false, ◌&&◌, true≢false}
 use mathlib.Core.Logic.{⊎_elim}
 use mathlib.Core.List.{List}
 use native.Mathlib.Nat.{le_of_lt, eq-or-lt_of_le}
 use native.Mathlib.Omega.{arith}
-use lib.ListN.{length, get_or, set, take, drop, length-set}
+use lib.ListN.{length, get_or, set, take, length-set}
 use lib.Seq.{get_or-set_same, get_or-set_other, ext_get_or}
-use lib.Dec.{eqb, ltb, leb}
+use lib.Dec.{ltb, leb}
 use borrow.Author.Tests.{eq-eqb, ne_eqb, eqb-true, lt-ltb, le-ltb, ltb-true, ltb-false, le-leb, lt-leb, leb-true, not-false}
-use Rattle.scan.specs.First.{first_to, pick}
+use Rattle.scan.specs.First.{first_to}
 use Rattle.scan.specs.Bytes.{part, same_bytes}
 use Rattle.scan.proofs.Laws.{IsFirst, to_hit, to_past, to_first, first_only}
 use Rattle.scan.proofs.Bytes.{both, same_refl, same_eq, same_ne}

@@ -1,13 +1,13 @@
 -- The laws of the sieve: the bit of each kept hash is set, so that a hash whose bit is not set is none of them.
 use Prim.Native.Nat.{ℕ, zero, suc, ◌+◌, ◌*◌, ◌/◌, ◌%◌, ◌^◌, ◌≤◌, ◌<◌}
-use mathlib.Core.Path.{◌≡◌, refl, sym, ap, subst, ◌∙◌}
+use mathlib.Core.Path.{◌≡◌, refl, sym, ap, ◌∙◌}
 use mathlib.Core.Bool.{Bool, true, false, true≢false}
 use mathlib.Core.Logic.{⊎_elim}
 use mathlib.Core.List.{List}
 use native.Mathlib.Nat.{eq-or-lt_of_le, mod-lt, mod-eq_of_lt, div_self, one-mul}
 use native.Mathlib.Numerals.{add-one}
 use native.Mathlib.Omega.{arith}
-use lib.ListN.{length, get_or, set, replicate, length-set, length-replicate}
+use lib.ListN.{length, get_or, set, length-set, length-replicate}
 use lib.Seq.{get_or-set_same, get_or-set_other}
 use lib.Bits.{bit_or, or_shr, or_mod}
 use lib.Pow.{pow_pos, pow-lt}
@@ -19,9 +19,8 @@ use Rattle.tag_keys.specs.declared.Earlier.{Earlier}
 use Rattle.tag_keys.specs.declared.Earlier.TheVariants.{At, Nothing}
 use Rattle.tag_keys.specs.Hash.{hash_of}
 use Rattle.tag_keys.specs.Sieve.{sieve_words, sieve_word, in_sieve, sieved, empty_sieve, sieve_of, SieveOf, sieve_left, sieved_in}
-use Rattle.tag_keys.specs.declared.Checked.{Checked}
-use Rattle.tag_keys.specs.declared.Checked.TheVariants.{Fresh, Full}
-use Rattle.tag_keys.specs.Keys.{capacity, KeysIn, holds, has_place, name_at, earlier_of, checked_by, checked_of, recorded_in}
+use Rattle.tag_keys.specs.declared.Checked.TheVariants.{Fresh}
+use Rattle.tag_keys.specs.Keys.{capacity, KeysIn, holds, has_place, earlier_of, checked_by, checked_of, recorded_in}
 use Rattle.tag_keys.proofs.Laws.{earlier_none, holds_facts}
 
 -- Bits.

@@ -1,6 +1,6 @@
 -- The recorded keys. A table of them is three lists, the keys' starts, their ends and their hashes in the order in which they
 -- were recorded, and a count: places at or after the count are unused.
-use Rattle.std.specs.Prelude.{ℕ, ◌+◌, ◌-◌, ◌≤◌, ◌<◌, ◌≡◌, Bool, true, false, not, ◌&&◌, List, [], ◌∷◌, length, get_or, set, eqb, ltb, leb}
+use Rattle.std.specs.Prelude.{ℕ, ◌+◌, ◌≤◌, ◌<◌, ◌≡◌, Bool, true, not, ◌&&◌, List, [], ◌∷◌, length, get_or, set, eqb, ltb, leb}
 use Rattle.scan.specs.First.{first_to, pick}
 use Rattle.scan.specs.Bytes.{part, same_bytes}
 use Rattle.tag_keys.specs.Hash.{hash_of}

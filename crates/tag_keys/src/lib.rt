@@ -57,6 +57,7 @@ const PRIME: u64 = 16777619;
 const RANGE: u64 = 4294967296;
 
 // The factor times a number, with everything above 32 bits dropped: a wrapping product on `u32`.
+#[tactic(auto, unfolding(crate::specs::Hash::times_prime))]
 fn times_prime(x: u32) -> u32
     ensures { result ≡ times_prime x }
 {
@@ -141,6 +142,7 @@ fn in_sieve<'a>(sieve: &'a [u64], hash: u32) -> bool
 }
 
 // The word of the sieve that has the bit of a hash: its index is below `SIEVE_WORDS`.
+#[tactic(auto, unfolding(crate::specs::Sieve::sieve_word))]
 fn sieve_word(hash: u32) -> usize
     ensures { result ≡ sieve_word hash }
 {
@@ -290,6 +292,7 @@ pub fn holds<'a>(starts: &'a [usize], ends: &'a [usize], hashes: &'a [u32], coun
 }
 
 // The verdict on a key by what a search found.
+#[tactic(auto, unfolding(crate::specs::Keys::checked_by))]
 fn verdict(count: usize, earlier: Earlier) -> Checked
     ensures { result ≡ checked_by count earlier }
 {
