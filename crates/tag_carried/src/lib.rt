@@ -4,9 +4,6 @@
 // and `value`, which hand out what `Attribute` holds. The work is the plain iterator's, in the crate `tag_step`, and that of
 // the crate `tag_parts`: each function here takes the struct apart and calls it. A state goes there and back by value, 20 KB
 // each way: whoever reads whole tags calls the crate `tag_batch`.
-//
-// No function over a struct that holds a reference is proved by itself: each one here has a walk of its code under proofs/.
-// `first` takes a plain slice and a number, so that its callers need none.
 #![tactic(auto)]
 
 ghost use Rattle.std.specs.Prelude.{◌≡◌, true, false};
@@ -54,6 +51,7 @@ impl<'a> Attributes<'a> {
     }
 
     // Sets checks on or off. The crate's also hands `self` back.
+    #[tactic(auto, unfolding(tag_step::specs::Next::with_checks))]
     pub fn with_checks(&mut self, checks: bool)
         ensures { self.new ≡ checked_as checks self.old }
     {

@@ -1,4 +1,0 @@
-pub mod Parts
-pub mod Opens
-pub mod Loan
-pub mod Hands
