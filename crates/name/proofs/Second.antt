@@ -2,7 +2,7 @@
 -- nothing is said of searches.
 use Prim.Native.Nat.{ℕ, zero, suc, ◌+◌, ◌-◌, ◌≤◌, ◌<◌}
 use mathlib.Core.Path.{◌≡◌, refl, sym, ap, ◌∙◌}
-use mathlib.Core.Bool.{Bool, true, false, true≢false}
+use mathlib.Core.Bool.{Bool, true, false}
 use mathlib.Core.List.{List, [], ◌∷◌}
 use native.Mathlib.Omega.{arith}
 use native.Mathlib.Numerals.{add-one}
@@ -15,7 +15,6 @@ use Rattle.scan.specs.First.{pick, first_from, first_to, first_of}
 use Rattle.scan.specs.Bytes.{bytes, bytes_from, is_byte}
 use Rattle.scan.proofs.Laws.{IsFirst, first, first_only}
 use Rattle.name.specs.Split.{colon_at, has_colon, local_at, second_at, second_of, colon_or}
-use Rattle.name.specs.declared.Colon.{Colon}
 use Rattle.name.specs.declared.Colon.TheVariants.{At, Nowhere}
 use Rattle.name.proofs.Split.{at_nowhere, colon_first, local_place, no_colon, colon_inside, colon_outside, second_whole}
 

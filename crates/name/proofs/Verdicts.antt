@@ -3,14 +3,11 @@
 use Prim.Native.Nat.{ℕ}
 use mathlib.Core.Path.{◌≡◌, refl, sym, ap, ◌∙◌}
 use mathlib.Core.Bool.{Bool, true, false, not, ◌&&◌, ◌||◌, false≢true}
-use mathlib.Core.List.{List, [], ◌∷◌}
-use mathlib.Core.Logic.{⊎_elim}
+use mathlib.Core.List.{List}
 use native.Mathlib.Omega.{arith}
-use types.Run.{OneOf}
-use denote.Enum.Declared.{tag_of}
 use lib.ListN.{length, get_or}
 use lib.Dec.{eqb, ltb}
-use borrow.Author.Tests.{eqb-false, eq-eqb, ne_eqb, not-true, not-false}
+use borrow.Author.Tests.{eq-eqb, ne_eqb, not-true, not-false}
 use Rattle.scan.specs.First.{pick, first_from, first_to, first_of}
 use Rattle.scan.specs.Bytes.{bytes, bytes_from, same_bytes, is_byte}
 use Rattle.scan.proofs.Bytes.{both_false}
@@ -26,7 +23,6 @@ use Rattle.name.specs.declared.PrefixDeclaration.TheVariants.{Nothing, Default, 
 use Rattle.name.specs.declared.Verdict.{Verdict}
 use Rattle.name.specs.declared.Verdict.TheVariants.{Yes, No, NoDeclaration}
 use Rattle.name.proofs.Declared.{xml_eq, xml_uri_eq}
-use Rattle.name.specs.contracts.NamedCheck as checks
 
 -- the answer of each test, or chain of tests
 module _ (prefix value : List ℕ) where
@@ -127,15 +123,15 @@ module _ (prefix value : List ℕ) where
   unfolding is_empty
   fine_colon f v p h = sym (fine_decides f ∙ rw (ne_eqb (length value) 0 v, ne_eqb (length prefix) 0 p, h))
 
--- the code's last arm of four
-pub four_refusals : (c : NamedCheck) → OneOf (2 ∷ 3 ∷ 4 ∷ 5 ∷ []) (tag_of checks.the_type c) → is_refusal c ≡ true
+-- the code's last arm, of the four that are left
+pub four_refusals : (c : NamedCheck) → (c ≡ Fine → ⊥) → (c ≡ AddsNothing → ⊥) → is_refusal c ≡ true
 unfolding is_refusal named_numbers
-four_refusals Fine k = absurd (⊎_elim (eqb-false 0 2 refl) (⊎_elim (eqb-false 0 3 refl) (⊎_elim (eqb-false 0 4 refl) (eqb-false 0 5 refl))) k)
-four_refusals AddsNothing k = absurd (⊎_elim (eqb-false 1 2 refl) (⊎_elim (eqb-false 1 3 refl) (⊎_elim (eqb-false 1 4 refl) (eqb-false 1 5 refl))) k)
-four_refusals InvalidXmlPrefixBind k = refl
-four_refusals InvalidXmlnsPrefixBind k = refl
-four_refusals InvalidPrefixForXml k = refl
-four_refusals InvalidPrefixForXmlns k = refl
+four_refusals Fine f a = absurd (f refl)
+four_refusals AddsNothing f a = absurd (a refl)
+four_refusals InvalidXmlPrefixBind f a = refl
+four_refusals InvalidXmlnsPrefixBind f a = refl
+four_refusals InvalidPrefixForXml f a = refl
+four_refusals InvalidPrefixForXmlns f a = refl
 
 -- Of a default declaration the two URIs decide.
 pub default_xml : (value : List ℕ) → is_xml_uri value ≡ true → false ≡ verdict_default value

@@ -1,0 +1,22 @@
+-- `name::declared_prefix` meets its contract: a named declaration has six bytes before its prefix, and no other name has
+-- one.
+use mathlib.Core.Path.{sym, ◌∙◌}
+use native.Mathlib.Omega.{arith}
+use Rattle.scan.proofs.Lists.{to_end}
+use Rattle.name.proofs.Declared.{named_long, named_part, unnamed_part, default_unnamed, default_tests, named_tests, nothing_tests}
+use Rattle.name.proofs.declared_prefix.Goals as goal
+
+pub slice_bounds-result-count : goal.slice_bounds-result-count
+slice_bounds-result-count c = omega (arith, named_long c.args.name.now (named_tests _ (sym c.in-Named.ensures)))
+
+pub slice_bounds-result-start : goal.slice_bounds-result-start
+slice_bounds-result-start c = omega (arith, named_long c.args.name.now (named_tests _ (sym c.in-Named.ensures)))
+
+pub returns-in-Nothing : goal.returns-in-Nothing
+returns-in-Nothing c = unnamed_part _ (nothing_tests _ (sym c.in-Nothing.ensures)).1
+
+pub returns-in-Default : goal.returns-in-Default
+returns-in-Default c = unnamed_part _ (default_unnamed _ (default_tests _ (sym c.in-Default.ensures)))
+
+pub returns-in-Named : goal.returns-in-Named
+returns-in-Named c = to_end 6 c.args.name.now ∙ named_part _ (named_tests _ (sym c.in-Named.ensures))
