@@ -57,6 +57,7 @@ pub fn check_in<'a>(
 }
 
 // By the verdict on the key whose `=` stands at `eq`: the value of a key that is refused is not looked at.
+#[tactic(auto, unfolding(tag_step::specs::Look::look_by))]
 fn look_by(tag: &[u8], html: bool, eq: usize, verdict: Checked) -> usize
     requires { eq < length tag.now }
     ensures { result ≡ look_by tag.now html eq verdict }
