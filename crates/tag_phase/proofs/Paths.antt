@@ -1,11 +1,11 @@
 -- One law for each way out of the scan.
 use Prim.Native.Nat.{ℕ, ◌+◌, ◌≤◌, ◌<◌}
-use mathlib.Core.Path.{◌≡◌, refl, sym, ap, ◌∙◌}
-use mathlib.Core.Bool.{Bool, true, false, not, ◌&&◌}
+use mathlib.Core.Path.{◌≡◌, sym}
+use mathlib.Core.Bool.{Bool, true, false}
 use mathlib.Core.List.{List}
 use lib.ListN.{length, get_or}
 use borrow.Author.Tests.{lt-ltb, le-ltb, le-leb, lt-leb, eq-eqb, ne_eqb}
-use Rattle.scan.specs.First.{first_from, pick}
+use Rattle.scan.specs.First.{first_from}
 use Rattle.scan.specs.Bytes.{is_space, not_space, ends_key, is_byte}
 use Rattle.tag_keys.specs.declared.Checked.{Checked}
 use Rattle.tag_keys.specs.Keys.{key_good}
@@ -13,7 +13,6 @@ use Rattle.tag_step.specs.declared.Span.{Span}
 use Rattle.tag_step.specs.declared.Place.TheVariants.{Next}
 use Rattle.tag_step.specs.Read.{span, is_quote}
 use Rattle.tag_step.specs.Next.{Keys, check_of}
-use Rattle.tag_phase.specs.declared.Phase.{Phase}
 use Rattle.tag_phase.specs.declared.Phase.TheVariants.{Begin, Due, InSkip, InSpace, InKey, AfterKey, BeforeValue, InDouble, InSingle, InUnquoted}
 use Rattle.tag_phase.specs.Phase.{unquoted_from, open_in, quoted_from, value_by, value_on, value_from, after_by, after_on, after_from, key_on, key_from, space_on, space_from, skip_on, skip_from, begin_at, is_refused, refused_of}
 

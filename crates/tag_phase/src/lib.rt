@@ -184,6 +184,7 @@ fn begin_at(tag: &[u8], place: Place) -> Phase
 }
 
 // The phase of what is held now, `tag`, where it was `phase` for the bytes before `from`.
+#[tactic(auto, unfolding(crate::specs::Phase::carried_of))]
 pub fn carry(tag: &[u8], from: usize, place: Place, phase: Phase) -> Phase
     ensures { result ≡ carried_of tag.now from place phase }
 {
@@ -211,6 +212,7 @@ fn unquoted_waits(html: bool, key: Span) -> Waiting
 }
 
 // Whether a phase waits in this mode.
+#[tactic(auto, unfolding(crate::specs::Phase::waiting_of))]
 fn waiting_in(html: bool, phase: Phase) -> Waiting
     ensures { result ≡ waiting_of html phase }
 {
