@@ -94,19 +94,19 @@ widest records n size i =
     record { rows = i.rows; small = omega arith; each = λ k l. omega (arith, i.each k l, i.small) }
 
 -- What is not bound has no URI, and what is not unknown no prefix.
-pub no_uri : (text : List ℕ) (f : Resolved) → OneOf (1 ∷ 2 ∷ 3 ∷ 4 ∷ []) (tag_of E.the_type f) → [] ≡ uri_part text f
+pub no_uri : (text : List ℕ) (f : Resolved) → ((a e : ℕ) → f ≡ Bound a e → ⊥) → [] ≡ uri_part text f
 unfolding uri_part
-no_uri text (Bound a e) k = absurd (⊎_elim (eqb-false 0 1 refl) (⊎_elim (eqb-false 0 2 refl) (⊎_elim (eqb-false 0 3 refl) (eqb-false 0 4 refl))) k)
+no_uri text (Bound a e) k = absurd (k a e refl)
 no_uri text Unbound k = refl
 no_uri text (Unknown a e) k = refl
 no_uri text BadResolver k = refl
 no_uri text WrongLength k = refl
 
-pub no_prefix : (name : List ℕ) (f : Resolved) → OneOf (0 ∷ 1 ∷ 3 ∷ 4 ∷ []) (tag_of E.the_type f) → [] ≡ prefix_part name f
+pub no_prefix : (name : List ℕ) (f : Resolved) → ((a e : ℕ) → f ≡ Unknown a e → ⊥) → [] ≡ prefix_part name f
 unfolding prefix_part
 no_prefix name (Bound a e) k = refl
 no_prefix name Unbound k = refl
-no_prefix name (Unknown a e) k = absurd (⊎_elim (eqb-false 2 0 refl) (⊎_elim (eqb-false 2 1 refl) (⊎_elim (eqb-false 2 3 refl) (eqb-false 2 4 refl))) k)
+no_prefix name (Unknown a e) k = absurd (k a e refl)
 no_prefix name BadResolver k = refl
 no_prefix name WrongLength k = refl
 

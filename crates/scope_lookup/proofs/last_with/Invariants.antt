@@ -1,0 +1,22 @@
+-- `scope_lookup::last_with` meets its contract: the last of all records is the last of the first i. The measure is i.
+use Prim.Native.Nat.{ℕ, ◌+◌, ◌-◌, ◌<◌, ◌≤◌}
+use mathlib.Core.Path.{◌≡◌, refl, sym, ap, ◌∙◌}
+use mathlib.Core.Bool.{Bool}
+use mathlib.Core.List.{List}
+use native.Mathlib.Omega.{arith}
+use lib.ListN.{length, take}
+use Rattle.scope_table.specs.Records.{record_at, value_end}
+use Rattle.scope_table.specs.Lists.{last_below}
+use Rattle.scope_lookup.specs.Lookup.{has_prefix}
+use Rattle.scope_table.proofs.Last.{last_hit, last_miss, last_none}
+use Rattle.scope_lookup.proofs.Laws.{row_lent, record_ends, unlike_length, like_length, unlike_last}
+use Rattle.scope_lookup.proofs.last_with.Given as goal
+
+abbrev pub passes : (text records name : List ℕ) (len i : ℕ) → Bool
+passes text records name len i = has_prefix text (take len name) (record_at records i)
+
+abbrev pub invariant-loop-i : goal.invariant-loop-i
+invariant-loop-i l = (l.i ≤ l.count) × (last_below (passes l.text l.records l.name l.len) l.count ≡ last_below (passes l.text l.records l.name l.len) l.i)
+
+abbrev pub decreases-loop-i : goal.decreases-loop-i
+decreases-loop-i l = l.i

@@ -1,0 +1,33 @@
+-- `scope_lookup::resolve_in` meets its contract: the test, then the lookup.
+use mathlib.Core.Path.{◌≡◌, sym, ◌∙◌}
+use Rattle.name.specs.Split.{has_colon, prefix_of}
+use Rattle.scope_table.specs.Lent.{form_of}
+use Rattle.scope_table.specs.declared.Form.TheVariants as Is
+use Rattle.scope_table.proofs.Good.{ready}
+use Rattle.scope_table.proofs.Calls.{asks_wrong}
+use Rattle.scope_lookup.specs.Lookup.{resolve_of}
+use Rattle.scope_lookup.specs.declared.Resolved.TheVariants.{WrongLength}
+use Rattle.scope_lookup.proofs.Padded.{ready_inside, lookup_bad, lookup_good}
+use Rattle.scope_lookup.proofs.resolve_in.Goals as goal
+
+pub returns-in-Bad : goal.returns-in-Bad
+unfolding resolve_of
+returns-in-Bad c =
+    let a = c.args in
+    lookup_bad a.text.now a.records.now a.head (prefix_of a.name.now) (has_colon a.name.now) a.wanted (sym c.in-Bad.ensures)
+
+pub returns-in-WrongLength : goal.returns-in-WrongLength
+returns-in-WrongLength c =
+    let a = c.args in
+    sym (asks_wrong a.text.now a.records.now a.head WrongLength (resolve_of a.name.now a.wanted) (sym c.in-WrongLength.ensures))
+
+pub name_among-requires : goal.name_among-requires
+name_among-requires c =
+    let a = c.args in
+    ready_inside a.text.now a.records.now a.head (ready a.text.now a.records.now a.head (sym c.in-Good.ensures))
+
+pub returns : goal.returns
+unfolding resolve_of
+returns c =
+    let a = c.args in
+    c.name_among.ensures ∙ lookup_good a.text.now a.records.now a.head (prefix_of a.name.now) (has_colon a.name.now) a.wanted (sym c.in-Good.ensures)
