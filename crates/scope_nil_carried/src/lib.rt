@@ -3,8 +3,6 @@
 // The search is the plain iterator's, in the crate `scope_nil`: the struct is taken apart, and the state that the search leaves is
 // put in its place. The resolver goes there by value: whoever asks of many tags lends its memory to `has_nil_in`. It is apart
 // from the crate `tag_carried`, which knows nothing of scopes.
-//
-// No function over a struct that holds a reference is proved by itself: proofs/ has a walk of the code.
 #![tactic(auto)]
 
 ghost use Rattle.std.specs.Prelude.{◌≡◌};
