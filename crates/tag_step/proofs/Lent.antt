@@ -1,25 +1,23 @@
 -- Steps on lent tables that may be shorter than the capacity. A step that leaves no more keys than are lent is the step of the
 -- iterator that the tables are: unused places are never read, and what is written lies in what is lent.
-use Prim.Native.Nat.{ℕ, zero, suc, ◌+◌, ◌-◌, ◌≤◌, ◌<◌}
+use Prim.Native.Nat.{ℕ, zero, suc, ◌-◌, ◌≤◌}
 use mathlib.Core.Path.{◌≡◌, refl, sym, ap, fun_ext, ◌∙◌}
-use mathlib.Core.Bool.{Bool, true, false, not, ◌&&◌, false≢true}
+use mathlib.Core.Bool.{Bool, true, false, not, ◌&&◌}
 use mathlib.Core.List.{List, [], ◌∷◌, ◌++◌}
 use native.Mathlib.Omega.{arith}
 use lib.ListN.{length, set, take, replicate}
 use lib.Seq.{take_at, take_all}
-use lib.Dec.{leb, ltb}
-use borrow.Author.Tests.{le-leb, leb-true, leb-false}
+use lib.Dec.{leb}
 use Rattle.scan.specs.First.{first_to, pick}
 use Rattle.scan.specs.Bytes.{part}
 use Rattle.scan.specs.Lists.{pad_to}
 use Rattle.scan.proofs.Bytes.{both}
 use Rattle.scan.proofs.Lists.{pad_at, pad_length, pad_take, pad_full}
-use Rattle.tag_keys.specs.declared.Earlier.{Earlier}
 use Rattle.tag_keys.specs.declared.Checked.{Checked}
 use Rattle.tag_keys.specs.declared.Checked.TheVariants.{Fresh, Same, Full}
 use Rattle.tag_keys.specs.Hash.{hash_of}
-use Rattle.tag_keys.specs.Keys.{capacity, hash_is, key_bad, holds, count_good, table_good, KeysIn, name_at, same_key, oldest_of, earlier_of, checked_by, checked_of, recorded_in, written_by, count_by}
-use Rattle.tag_keys.proofs.Laws.{table_in, in_table, facts_hold, holds_facts}
+use Rattle.tag_keys.specs.Keys.{capacity, hash_is, key_bad, holds, count_good, table_good, KeysIn, name_at, same_key, oldest_of, earlier_of, checked_of, written_by}
+use Rattle.tag_keys.proofs.Laws.{table_in, in_table, facts_hold}
 use Rattle.tag_step.specs.declared.Span.{Span}
 use Rattle.tag_step.specs.declared.Place.{Place}
 use Rattle.tag_step.specs.declared.Place.TheVariants.{Done}
@@ -27,7 +25,6 @@ use Rattle.tag_step.specs.declared.Start.{Start}
 use Rattle.tag_step.specs.declared.Start.TheVariants.{From, Ended}
 use Rattle.tag_step.specs.declared.KeyRead.{KeyRead}
 use Rattle.tag_step.specs.declared.KeyRead.TheVariants.{NoKey, Bare, Valued}
-use Rattle.tag_step.specs.declared.Answer.{Answer}
 use Rattle.tag_step.specs.declared.Answer.TheVariants.{End, ExpectedEq, BadState}
 use Rattle.tag_step.specs.declared.IterState.{IterState}
 use Rattle.tag_step.specs.declared.Step.{Step}
@@ -35,8 +32,8 @@ use Rattle.tag_step.specs.declared.Advance.{Advance}
 use Rattle.tag_step.specs.declared.Stepped.{Stepped}
 use Rattle.tag_step.specs.declared.Stepped.TheVariants.{Made, LendMore}
 use Rattle.tag_step.specs.Read.{found, recover_of, key_at}
-use Rattle.tag_step.specs.Next.{Keys, Reading, reading, keys_lent, check_of, kept_by, bare_by, bare_to, bare_of, valued_by_lem, valued_to, valued_of, read_key, read_at, step_from, step_of, place_at, place_good, advanced, keys_of, lent_state, state_good, no_keys, bad_reading, leaves, next_of}
-use Rattle.tag_step.specs.Lent.{whole_of, whole_next, needs_more, stepped_of, Taken, Took, Short, taken, taken_on}
+use Rattle.tag_step.specs.Next.{Keys, Reading, reading, keys_lent, check_of, kept_by, bare_to, bare_of, valued_to, valued_of, read_key, read_at, step_from, step_of, place_at, place_good, advanced, keys_of, lent_state, state_good, no_keys, bad_reading, leaves, next_of}
+use Rattle.tag_step.specs.Lent.{whole_of, whole_next, needs_more, stepped_of, Took, Short, taken, taken_on}
 use Rattle.tag_step.proofs.Good.{Sized, step_stands, next_stays_good, next_sized}
 use Rattle.tag_step.proofs.Taken.{Held, step_keeps_held}
 use Rattle.tag_step.proofs.Whole.{next_bad, next_steps}

@@ -20,8 +20,8 @@ use Rattle.tag_step.specs.declared.Advance.{Advance}
 use Rattle.tag_step.specs.declared.Stepped.{Stepped}
 use Rattle.tag_step.specs.declared.Stepped.TheVariants.{Made, LendMore}
 use Rattle.tag_step.specs.Read.{recover_of}
-use Rattle.tag_step.specs.Next.{Keys, Reading, keys_lent, advanced, check_of, kept_by, bare_to, bare_of, valued_to, valued_of, read_at, step_from, step_of, place_at}
-use Rattle.tag_step.specs.Lent.{Taken, Took, Short, taken, taken_on}
+use Rattle.tag_step.specs.Next.{Keys, Reading, keys_lent, advanced, check_of, kept_by, bare_to, bare_of, valued_to, valued_of, step_from, step_of}
+use Rattle.tag_step.specs.Lent.{Took, Short, taken, taken_on}
 use Rattle.tag_step.proofs.Whole.{starts_in}
 use Rattle.tag_step.proofs.Ways.{step_ways}
 

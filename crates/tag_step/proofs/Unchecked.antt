@@ -15,14 +15,13 @@ use Rattle.tag_step.specs.declared.Start.{Start}
 use Rattle.tag_step.specs.declared.Start.TheVariants.{From, Ended}
 use Rattle.tag_step.specs.declared.KeyRead.{KeyRead}
 use Rattle.tag_step.specs.declared.KeyRead.TheVariants.{NoKey, Bare, Valued}
-use Rattle.tag_step.specs.declared.Answer.{Answer}
 use Rattle.tag_step.specs.declared.Found.{Found}
 use Rattle.tag_step.specs.declared.Advance.{Advance}
 use Rattle.tag_step.specs.declared.Stepped.{Stepped}
 use Rattle.tag_step.specs.declared.Stepped.TheVariants.{Made, LendMore}
 use Rattle.tag_step.specs.declared.Step.{Step}
 use Rattle.tag_step.specs.Read.{found, recover_of, key_at}
-use Rattle.tag_step.specs.Next.{Keys, Reading, reading, keys_lent, advanced, check_of, kept_by, bare_by, bare_to, bare_of, valued_by_lem, valued_to, valued_of, read_key, read_at, step_from, step_of, place_good, keys_of, lent_state, state_good, no_keys, leaves, next_of, standing, unchecked_of, opened}
+use Rattle.tag_step.specs.Next.{Keys, Reading, reading, keys_lent, advanced, check_of, kept_by, bare_by, bare_to, bare_of, valued_by_lem, valued_to, valued_of, read_key, read_at, step_from, step_of, place_good, keys_of, state_good, no_keys, leaves, standing, unchecked_of, opened}
 use Rattle.tag_step.specs.Lent.{taken, step_in}
 use Rattle.tag_step.specs.Run.{is_end, cons_unless, run_lent, run_from, answers_from, answers_of}
 use Rattle.tag_step.proofs.Whole.{next_steps, recover_in}

@@ -8,7 +8,7 @@ use native.Mathlib.Omega.{arith}
 use lib.ListN.{length, get_or}
 use lib.Dec.{eqb, ltb, leb}
 use borrow.Author.Tests.{ltb-true, leb-true}
-use Rattle.scan.specs.First.{first_from, pick}
+use Rattle.scan.specs.First.{first_from}
 use Rattle.scan.specs.Bytes.{is_space, not_space, ends_key, part}
 use Rattle.scan.proofs.Laws.{first, picks}
 use Rattle.scan.proofs.Bytes.{both}
@@ -30,7 +30,7 @@ use Rattle.tag_step.specs.declared.Found.{Found}
 use Rattle.tag_step.specs.declared.Advance.{Advance}
 use Rattle.tag_step.specs.declared.IterState.{IterState}
 use Rattle.tag_step.specs.Read.{found, is_at, skip_to, skip_of, recover_of, key_eq, key_to, key_from, key_at, value_at}
-use Rattle.tag_step.specs.Next.{Keys, Reading, reading, keys_lent, advanced, check_of, kept_by, place_at, bare_by, bare_to, bare_of, valued_by_lem, valued_to, valued_of, read_key, read_at, step_from, step_of, place_good, good_of, keys_of, lent_state, state_good, bad_reading, leaves, next_of}
+use Rattle.tag_step.specs.Next.{Keys, Reading, reading, keys_lent, advanced, check_of, kept_by, place_at, bare_by, bare_to, bare_of, valued_by_lem, valued_to, valued_of, read_key, read_at, step_from, step_of, place_good, good_of, keys_of, state_good, bad_reading, leaves, next_of}
 
 abbrev outcome : Answer → Place → ℕ → Advance
 outcome a p n = record { answer = a; place = p; count = n }

@@ -214,6 +214,7 @@ pub fn read_key(tag: &[u8], from: usize) -> KeyRead
 }
 
 // An attribute in `"`: `IterState::double_q`. Reading goes on after the closing quote.
+#[tactic(auto, unfolding(crate::specs::Read::closed_of, crate::specs::Read::quoted))]
 fn double_q(key: Span, value: Span) -> Found
     requires { value.end + 1 < 2 ^ 64 }
     ensures { result ≡ closed_of 34 key value }
@@ -225,6 +226,7 @@ fn double_q(key: Span, value: Span) -> Found
 }
 
 // An attribute in `'`: `IterState::single_q`.
+#[tactic(auto, unfolding(crate::specs::Read::closed_of, crate::specs::Read::quoted))]
 fn single_q(key: Span, value: Span) -> Found
     requires { value.end + 1 < 2 ^ 64 }
     ensures { result ≡ closed_of 39 key value }
@@ -595,6 +597,7 @@ fn next_in<'a>(
 
 impl IterState {
     // An iterator that is opened at `offset`, with checks on.
+    #[tactic(auto, unfolding(crate::specs::Next::opened, crate::specs::Next::no_keys))]
     pub fn new(offset: usize, html: bool) -> Self
         ensures { result ≡ opened offset html true }
     {
@@ -610,6 +613,7 @@ impl IterState {
     }
 
     // Sets whether keys are checked and recorded: `Attributes::with_checks`.
+    #[tactic(auto, unfolding(crate::specs::Next::with_checks))]
     pub fn with_checks(mut self, checks: bool) -> Self
         ensures { result ≡ with_checks checks self }
     {
