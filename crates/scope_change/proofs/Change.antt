@@ -2,27 +2,27 @@
 -- records that stay are counted from the end, and their text ends where the next one starts.
 use Prim.Native.Nat.{ℕ, zero, suc, ◌+◌, ◌-◌, ◌≤◌, ◌<◌}
 use mathlib.Core.Path.{◌≡◌, refl, sym, ap, ◌∙◌}
-use mathlib.Core.Bool.{Bool, true, false, ◌&&◌, false≢true}
-use mathlib.Core.List.{List, [], ◌∷◌, ◌++◌}
+use mathlib.Core.Bool.{Bool, true, false, false≢true}
+use mathlib.Core.List.{List, ◌++◌}
 use mathlib.Core.Logic.{⊎_elim}
 use native.Mathlib.Nat.{eq-or-lt_of_le}
 use native.Mathlib.Omega.{arith}
 use lib.Dec.{leb, ltb}
-use lib.ListN.{length, take, drop, length-append}
+use lib.ListN.{length, length-append}
 use borrow.Author.Tests.{leb-false, ltb-false, le-leb, lt-leb, lt-ltb, le-ltb}
 use Rattle.scan.specs.First.{pick}
-use Rattle.scan.specs.Lists.{over, pad_to}
+use Rattle.scan.specs.Lists.{pad_to}
 use Rattle.scan.proofs.Laws.{picks}
 use Rattle.scope_table.specs.Lists.{last_below, cut}
 use Rattle.scope_table.specs.Records.{row_at, record_at, binding_of, row_of}
-use Rattle.scope_table.specs.Table.{TEXT, RECORDS, NUMBERS, head_of, resolver_of, text_of, valid_of}
+use Rattle.scope_table.specs.Table.{TEXT, NUMBERS, head_of, resolver_of, text_of}
 use Rattle.scope_table.specs.Answer.{is_done, changed}
-use Rattle.scope_table.specs.Lent.{stands_for, holds_of, fits_of, given, lent_of, form_of}
+use Rattle.scope_table.specs.Lent.{stands_for, holds_of, fits_of, given, lent_of}
 use Rattle.scope_table.specs.declared.Head.{Head}
 use Rattle.scope_table.specs.declared.NamespaceBinding.{NamespaceBinding}
 use Rattle.scope_table.specs.declared.NamespaceResolver.{NamespaceResolver}
 use Rattle.scope_table.specs.declared.NamespaceResult.{NamespaceResult}
-use Rattle.scope_table.specs.declared.NamespaceResult.TheVariants.{Done, TooManyBindings, BindingTableFull, TextFull, BadResolver, LendMore}
+use Rattle.scope_table.specs.declared.NamespaceResult.TheVariants.{Done, TooManyBindings, BindingTableFull, TextFull, LendMore}
 use Rattle.scope_table.proofs.Lists.{and_left, and_right, and_take}
 use Rattle.scope_table.proofs.Last.{last_hit, last_miss, last_within}
 use Rattle.scope_table.proofs.Rows.{rows_before, rows_within, row_fits}

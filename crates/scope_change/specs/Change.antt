@@ -1,5 +1,5 @@
 -- What a call that changes a resolver leaves: one binding more, and the records above a level dropped.
-use Rattle.std.specs.Prelude.{ℕ, ◌+◌, ◌-◌, Bool, ◌&&◌, List, ◌++◌, length, leb, ltb}
+use Rattle.std.specs.Prelude.{ℕ, ◌+◌, ◌-◌, List, ◌++◌, length, leb, ltb}
 use Rattle.scan.specs.First.{pick}
 use Rattle.scan.specs.Lists.{over}
 use Rattle.scope_table.specs.Lists.{last_below, cut}
