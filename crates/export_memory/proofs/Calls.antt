@@ -1,6 +1,6 @@
 -- A call across the boundary is the call on lent memory, with its head and its answer's numbers written.
 use Prim.Native.Nat.{ℕ}
-use mathlib.Core.Path.{◌≡◌, refl, ap, ◌∙◌}
+use mathlib.Core.Path.{◌≡◌, ap, ◌∙◌}
 use mathlib.Core.List.{List, []}
 use lib.ListN.{set}
 use Rattle.scope_table.specs.Answer.{told_of, change_numbers}
@@ -8,7 +8,7 @@ use Rattle.scope_table.specs.Lent.{Given, given}
 use Rattle.scope_table.specs.declared.Head.{Head}
 use Rattle.scope_table.specs.declared.Outcome.{Outcome}
 use Rattle.scope_table.specs.declared.Told.{Told}
-use Rattle.export_memory.specs.Boundary.{head_in, head_after, code_of, detail_after, Crossed, crossed, crossed_of, change_in, Asked, asked, ask_in}
+use Rattle.export_memory.specs.Boundary.{head_in, head_after, code_of, detail_after, crossed, crossed_of, change_in, Asked, asked, ask_in}
 
 -- the numbers of an answer, as they are written
 pub told_is : (numbers detail : List ℕ) (told : Told) → told ≡ told_of numbers → asked told.number (set (set detail 0 told.first) 1 told.second) ≡ ask_in numbers detail
