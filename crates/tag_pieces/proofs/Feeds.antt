@@ -3,7 +3,6 @@ use Prim.Native.Nat.{ℕ, ◌+◌, ◌≤◌, ◌<◌}
 use mathlib.Core.Path.{◌≡◌, refl, sym, ap, ◌∙◌}
 use mathlib.Core.Bool.{Bool, true, false, false≢true, true≢false}
 use mathlib.Core.List.{List}
-use native.Mathlib.Omega.{arith}
 use lib.ListN.{length, take}
 use lib.Dec.{ltb}
 use borrow.Author.Tests.{lt-ltb, le-ltb, ltb-false}
@@ -14,7 +13,7 @@ use Rattle.tag_phase.specs.declared.Phase.{Phase}
 use Rattle.tag_phase.specs.Phase.{carried_of}
 use Rattle.tag_pieces.specs.declared.Fed.{Fed}
 use Rattle.tag_pieces.specs.declared.Fed.TheVariants.{Accepted, Finished, TooLong, LendMore}
-use Rattle.tag_pieces.specs.Reader.{hold, fed_of, is_accepted, Grown, grown, grown_by, piece_in}
+use Rattle.tag_pieces.specs.Reader.{hold, fed_of, is_accepted, grown, grown_by, piece_in}
 
 pub fed_finished : (finished : Bool) (room held n : ℕ) → finished ≡ true → Finished ≡ fed_of finished room held n
 unfolding fed_of

@@ -3,7 +3,6 @@
 use Rattle.std.specs.Prelude.{ℕ, ◌+◌, Bool, true, false, not, ◌&&◌, ◌||◌, List, length, take, replicate, ltb, leb}
 use Rattle.scan.specs.First.{pick}
 use Rattle.scan.specs.Lists.{over}
-use Rattle.tag_keys.specs.Keys.{capacity}
 use Rattle.tag_step.specs.declared.Answer.{Answer}
 use Rattle.tag_step.specs.declared.Answer.TheVariants.{BadState}
 use Rattle.tag_step.specs.declared.IterState.{IterState}

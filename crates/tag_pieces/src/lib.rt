@@ -94,6 +94,7 @@ pub struct Growth {
 
 impl Fed {
     // 0, or the number of the refusal; 98 where text has to be lent.
+    #[tactic(auto, unfolding(crate::specs::Reader::fed_number))]
     pub fn number(self) -> usize
         ensures { result ≡ fed_number self }
     {
@@ -126,6 +127,7 @@ fn fed_by(finished: bool, room: usize, held: usize, n: usize) -> Fed
 }
 
 // Whether a piece or a finish is accepted.
+#[tactic(auto, unfolding(crate::specs::Reader::is_accepted))]
 pub fn accepted(fed: Fed) -> bool
     ensures { result ≡ is_accepted fed }
 {
