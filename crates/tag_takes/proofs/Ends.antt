@@ -1,10 +1,10 @@
 -- The ways in which many answers come back, each as what the contract says.
-use Prim.Native.Nat.{ℕ, zero, suc, ◌-◌, ◌/◌, ◌≤◌, ◌<◌}
+use Prim.Native.Nat.{ℕ, suc, ◌-◌, ◌/◌, ◌≤◌, ◌<◌}
 use mathlib.Core.Path.{◌≡◌, refl, sym, ap, ◌∙◌}
 use mathlib.Core.Bool.{Bool, true, false, not, ◌&&◌, true≢false}
 use mathlib.Core.List.{List, [], ◌∷◌, append-nil}
 use native.Mathlib.Omega.{arith}
-use lib.ListN.{length, take, replicate}
+use lib.ListN.{length}
 use lib.Dec.{eqb, ltb}
 use borrow.Author.Tests.{le-leb, lt-leb, ne_eqb}
 use Rattle.scan.specs.First.{pick}
@@ -20,14 +20,13 @@ use Rattle.tag_batch.specs.declared.Batch.{Batch}
 use Rattle.tag_batch.specs.declared.Batch.TheVariants.{Read, WrongTables}
 use Rattle.tag_batch.specs.declared.Why.{Why}
 use Rattle.tag_batch.specs.declared.Why.TheVariants.{OutFull, AtEnd}
-use Rattle.tag_batch.specs.Batch.{five_of, fives_of, Ran, tables_lent, answers_room, Batched, batched, batch_shown, Ripe}
+use Rattle.tag_batch.specs.Batch.{five_of, fives_of, Ran, tables_lent, answers_room, Batched, batched, batch_shown}
 use Rattle.tag_phase.specs.declared.Phase.{Phase}
 use Rattle.tag_phase.specs.declared.Phase.TheVariants.{Begin}
 use Rattle.tag_phase.specs.Phase.{waits_on}
 use Rattle.tag_pieces.specs.declared.Reader.{Reader}
-use Rattle.tag_pieces.specs.declared.Cursor.{Cursor}
 use Rattle.tag_pieces.specs.Reader.{hold, held_of, iterator_of, reader_good, moved, emptied}
-use Rattle.tag_takes.specs.Takes.{Counted, Some, Wrong, TakeEnd, take_end, Takes, takes, takes_of, lent_reader, cursor_after, emptied_at, lengths_lent, takes_shown, take_all_of, ready_of, ready_shown}
+use Rattle.tag_takes.specs.Takes.{Some, Wrong, TakeEnd, take_end, takes_of, lengths_lent, takes_shown, take_all_of, ready_of, ready_shown}
 use Rattle.tag_takes.proofs.Lift.{Ready, phase_by, lifted, ready_lifts, takes_more, takes_seven}
 
 -- a batch of its iterator as what a reader leaves

@@ -1,20 +1,18 @@
 -- Many answers of a reader are the steps of its iterator, one after another.
-use Prim.Native.Nat.{ℕ, zero, suc, ◌+◌, ◌-◌, ◌/◌, ◌≤◌, ◌<◌}
+use Prim.Native.Nat.{ℕ, zero, suc, ◌-◌, ◌/◌, ◌≤◌}
 use mathlib.Core.Path.{◌≡◌, refl, sym, ap, subst, ◌∙◌}
 use mathlib.Core.Bool.{Bool, true, false, not, ◌&&◌, ◌||◌}
 use mathlib.Core.List.{List, [], ◌∷◌}
 use native.Mathlib.Omega.{arith}
-use lib.ListN.{length, take, replicate, length-replicate}
-use lib.Seq.{length-take-le}
+use lib.ListN.{length, replicate, length-replicate}
 use lib.Dec.{leb, ltb}
-use borrow.Author.Tests.{le-leb, lt-leb, lt-ltb, le-ltb, leb-true, leb-false, not-true, not-false}
+use borrow.Author.Tests.{le-leb, lt-ltb, le-ltb, not-false}
 use Rattle.scan.specs.First.{pick}
 use Rattle.tag_keys.specs.Keys.{capacity, holds}
 use Rattle.tag_keys.proofs.Laws.{in_table, keys_none}
 use Rattle.tag_step.specs.declared.Answer.{Answer}
 use Rattle.tag_step.specs.declared.Answer.TheVariants.{BadState}
 use Rattle.tag_step.specs.declared.IterState.{IterState}
-use Rattle.tag_step.specs.declared.Place.TheVariants.{Done}
 use Rattle.tag_step.specs.declared.Advance.{Advance}
 use Rattle.tag_step.specs.declared.Stepped.TheVariants.{Made}
 use Rattle.tag_step.specs.Read.{recover_of}
@@ -23,17 +21,16 @@ use Rattle.tag_step.specs.Look.{look_start, look_of, look_next}
 use Rattle.tag_step.specs.Lent.{whole_next, needs_more, stepped_of, taken, taken_on}
 use Rattle.tag_step.specs.Run.{is_end}
 use Rattle.tag_step.proofs.Lent.{good_needs, good_leaves}
-use Rattle.tag_batch.specs.declared.Why.{Why}
 use Rattle.tag_batch.specs.declared.Why.TheVariants.{OutFull, AtEnd, LendMore}
-use Rattle.tag_batch.specs.Batch.{Ran, ran, ahead, ran_of, Ripe}
+use Rattle.tag_batch.specs.Batch.{Ran, ran_of, Ripe}
 use Rattle.tag_batch.proofs.Turns.{step_ripe}
 use Rattle.tag_batch.proofs.Ends.{ended_ran}
 use Rattle.tag_phase.specs.declared.Phase.{Phase}
 use Rattle.tag_phase.specs.declared.Phase.TheVariants.{Begin}
 use Rattle.tag_phase.specs.Phase.{waiting_of, waits_by, waits_on}
 use Rattle.tag_pieces.specs.declared.Reader.{Reader}
-use Rattle.tag_pieces.specs.declared.Taken.TheVariants.{More, Gives, MoreKeys}
-use Rattle.tag_pieces.specs.Reader.{hold, held_of, iterator_of, reader_good, moved, emptied, waits_for, took, phase_after, answered_of, take_of}
+use Rattle.tag_pieces.specs.declared.Taken.TheVariants.{More, Gives}
+use Rattle.tag_pieces.specs.Reader.{held_of, iterator_of, reader_good, moved, emptied, waits_for, took, answered_of, take_of}
 use Rattle.tag_takes.specs.Takes.{Takes, takes, takes_by, takes_of, looks_past, ready_of}
 
 -- Steps of a ripe iterator.

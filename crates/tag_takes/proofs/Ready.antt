@@ -1,6 +1,6 @@
 -- What one turn of the loop over ready answers does.
-use Prim.Native.Nat.{ℕ, zero, suc, ◌+◌, ◌*◌, ◌≤◌, ◌<◌}
-use mathlib.Core.Path.{◌≡◌, refl, sym, ap, ◌∙◌}
+use Prim.Native.Nat.{ℕ, suc, ◌+◌, ◌*◌, ◌≤◌, ◌<◌}
+use mathlib.Core.Path.{◌≡◌, refl, ap, ◌∙◌}
 use mathlib.Core.Bool.{Bool, true, false}
 use mathlib.Core.List.{List, []}
 use lib.ListN.{length}
@@ -16,7 +16,7 @@ use Rattle.tag_step.specs.Lent.{whole_next, needs_more, stepped_of, taken, taken
 use Rattle.tag_step.specs.Run.{is_end}
 use Rattle.tag_batch.specs.declared.Batch.TheVariants.{Read}
 use Rattle.tag_batch.specs.declared.Why.TheVariants.{OutFull, AtEnd, LendMore}
-use Rattle.tag_batch.specs.Batch.{five_of, Ran, ran, ahead, batched, batch_shown, answers_room}
+use Rattle.tag_batch.specs.Batch.{five_of, Ran, ran, ahead, batched}
 use Rattle.tag_batch.proofs.Turns.{TurnOf, turn_stops, turn_next, turn_full, stopped, short_needs, short_left, step_held, step_answer, step_leaves, step_ripe}
 use Rattle.tag_takes.specs.Takes.{looks_past, ready_of, ready_shown}
 

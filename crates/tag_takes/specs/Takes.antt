@@ -1,8 +1,7 @@
 -- Many answers in one call: they are taken one by one, up to as many as a lent output holds.
-use Rattle.std.specs.Prelude.{ℕ, zero, suc, ◌≤◌, ◌≡◌, Bool, true, false, not, ◌&&◌, List, [], ◌∷◌, length, eqb, leb}
+use Rattle.std.specs.Prelude.{ℕ, zero, suc, Bool, not, ◌&&◌, List, [], ◌∷◌, length, eqb, leb}
 use Rattle.scan.specs.First.{pick}
 use Rattle.scan.specs.Lists.{over}
-use Rattle.tag_keys.specs.Keys.{capacity}
 use Rattle.tag_step.specs.declared.Answer.{Answer}
 use Rattle.tag_step.specs.declared.IterState.{IterState}
 use Rattle.tag_step.specs.declared.Place.{Place}
@@ -18,7 +17,6 @@ use Rattle.tag_pieces.specs.declared.Reader.{Reader}
 use Rattle.tag_pieces.specs.declared.Cursor.{Cursor}
 use Rattle.tag_pieces.specs.declared.Taken.{Taken}
 use Rattle.tag_pieces.specs.declared.Taken.TheVariants.{More, Gives, MoreKeys}
-use Rattle.tag_pieces.specs.declared.Take.{Take}
 use Rattle.tag_takes.specs.declared.Took.{Took}
 use Rattle.tag_takes.specs.declared.Took.TheVariants.{Read, WrongLength}
 use Rattle.tag_pieces.specs.Reader.{hold, iterator_of, take_of}
