@@ -2,18 +2,18 @@
 -- nothing that it reads, since every record in use ends within the lent text.
 use Prim.Native.Nat.{ℕ, ◌+◌, ◌≤◌, ◌<◌}
 use mathlib.Core.Path.{◌≡◌, refl, sym, ap, ◌∙◌}
-use mathlib.Core.Bool.{Bool, true, false, not, ◌&&◌}
+use mathlib.Core.Bool.{Bool, true, false}
 use mathlib.Core.List.{List}
 use native.Mathlib.Omega.{arith}
 use lib.Dec.{leb, ltb}
 use lib.ListN.{length}
 use borrow.Author.Tests.{leb-true, leb-false}
-use Rattle.scan.specs.First.{pick, first_to}
+use Rattle.scan.specs.First.{first_to}
 use Rattle.scan.specs.Bytes.{same_bytes}
 use Rattle.scan.proofs.Laws.{IsFirst, to_first, first_only, to_past}
 use Rattle.scan.specs.Lists.{pad_to}
 use Rattle.scope_table.specs.Records.{record_at, value_end, prefix_in}
-use Rattle.scope_table.specs.Table.{TEXT, NUMBERS, valid_of}
+use Rattle.scope_table.specs.Table.{TEXT, NUMBERS}
 use Rattle.scope_table.specs.Lent.{lent, form_of}
 use Rattle.scope_table.proofs.Pad.{pad_records}
 use Rattle.scope_table.proofs.Good.{Ready, ready}
@@ -22,7 +22,6 @@ use Rattle.scope_table.specs.declared.Head.{Head}
 use Rattle.scope_table.specs.declared.NamespaceBinding.{NamespaceBinding}
 use Rattle.scope_table.specs.declared.NamespaceResolver.{NamespaceResolver}
 use Rattle.scope_table.specs.declared.Form.TheVariants as Is
-use Rattle.scope_lookup.specs.Inside.{Inside}
 use Rattle.scope_lookup.specs.Lookup.{has_prefix}
 use Rattle.scope_lookup.proofs.Padded.{pad_prefix, ready_inside}
 use Rattle.scope_listing.specs.Listing.{Rising, listing, is_overridden, in_effect, at_level, listed_at, past_built_in, bindings_of, bindings_at_of}

@@ -2,18 +2,18 @@
 -- goes on after it. What `bindings` shows is what its prefix resolves to, since no later record has that prefix.
 use Prim.Native.Nat.{ℕ, zero, suc, ◌+◌, ◌-◌, ◌≤◌, ◌<◌}
 use mathlib.Core.Path.{◌≡◌, refl, sym, ap, ◌∙◌, subst}
-use mathlib.Core.Bool.{Bool, true, false, not, ◌&&◌, true≢false, false≢true}
+use mathlib.Core.Bool.{Bool, true, false, not, true≢false, false≢true}
 use mathlib.Core.List.{List, [], ◌∷◌}
 use mathlib.Core.Logic.{⊎_elim}
-use native.Mathlib.Nat.{add-zero, add-suc, suc-add, eq-or-lt_of_le, not-suc-le-zero}
+use native.Mathlib.Nat.{eq-or-lt_of_le, not-suc-le-zero}
 use native.Mathlib.Numerals.{add-one}
 use native.Mathlib.Omega.{arith}
 use lib.Dec.{eqb, leb, ltb}
-use lib.ListN.{length, take, drop}
-use borrow.Author.Tests.{eq-eqb, ne_eqb, eqb-true, eqb-false, leb-true, leb-false, lt-ltb, le-ltb, ltb-true, ltb-false, not-true}
+use lib.ListN.{length}
+use borrow.Author.Tests.{ne_eqb, eqb-true, eqb-false, leb-true, leb-false, le-ltb, ltb-true, ltb-false}
 use Rattle.scan.specs.First.{pick, first_of, first_to}
 use Rattle.scan.specs.Bytes.{part, same_bytes}
-use Rattle.scan.proofs.Laws.{IsFirst, to_first, to_past}
+use Rattle.scan.proofs.Laws.{to_first, to_past}
 use Rattle.scan.proofs.Bytes.{both, same_refl}
 use Rattle.scan.proofs.Lists.{part_length}
 use Rattle.scope_table.specs.Records.{record_at, value_start, value_end, prefix_in}
@@ -28,7 +28,7 @@ use Rattle.scope_lookup.specs.declared.Resolved.TheVariants.{Bound, Unbound, Unk
 use Rattle.scope_listing.specs.Listing.{listing, has_value, is_overridden, in_effect, at_level, shown_of, listed_at, past_built_in, bindings_of, bindings_at_of}
 use Rattle.scope_listing.specs.Whole.{is_last, list_all, showing, ListsInEffect, ListsLevel, EffectResolves}
 use Rattle.scope_listing.specs.declared.Listed.{Listed}
-use Rattle.scope_listing.specs.declared.Listed.TheVariants.{Binding, End}
+use Rattle.scope_listing.specs.declared.Listed.TheVariants.{End}
 use Rattle.scope_listing.specs.declared.Listing.{Listing}
 
 -- The first record that passes, and the rest.

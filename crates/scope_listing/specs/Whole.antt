@@ -1,5 +1,5 @@
 -- A whole listing: a caller goes on from place to place until the end.
-use Rattle.std.specs.Prelude.{ℕ, zero, suc, ◌+◌, ◌-◌, ◌≤◌, ◌<◌, ◌≡◌, Bool, true, false, not, List, [], ◌∷◌, length}
+use Rattle.std.specs.Prelude.{ℕ, zero, suc, ◌+◌, ◌-◌, ◌<◌, ◌≡◌, Bool, true, false, not, List, [], ◌∷◌}
 use Rattle.scan.specs.First.{pick}
 use Rattle.scope_table.specs.Records.{record_at, value_start, value_end, prefix_in}
 use Rattle.scope_table.specs.declared.NamespaceBinding.{NamespaceBinding}
