@@ -30,6 +30,7 @@ impl Truth {
 }
 
 // The key of an answer that is an attribute, else nothing.
+#[tactic(auto, unfolding(crate::specs::Parts::key_part))]
 pub fn key_part(tag: &[u8], answer: Answer) -> &[u8]
     ensures { result.now ≡ key_part tag.now answer }
 {
@@ -43,6 +44,7 @@ pub fn key_part(tag: &[u8], answer: Answer) -> &[u8]
 }
 
 // The value of an answer that is an attribute, without its quotes, else nothing.
+#[tactic(auto, unfolding(crate::specs::Parts::value_part))]
 pub fn value_part(tag: &[u8], answer: Answer) -> &[u8]
     ensures { result.now ≡ value_part tag.now answer }
 {
