@@ -1,7 +1,7 @@
 -- The crate's way with many keys, for any function h from names to numbers: `check_for_duplicates` and
 -- `check_for_duplicates_hashed`, src/events/attributes.rs. From a number of recorded keys on, `small`, a set of their
 -- hashes is asked first. It is not ported; proofs/Hash.antt shows that it answers as the plain search does.
-use Rattle.std.specs.Prelude.{ℕ, ◌≤◌, ◌<◌, ◌≡◌, Bool, true, false, ◌||◌, List, [], ◌∷◌, length, eqb, ltb, leb}
+use Rattle.std.specs.Prelude.{ℕ, ◌≤◌, ◌<◌, ◌≡◌, Bool, true, ◌||◌, List, [], ◌∷◌, length, eqb, ltb, leb}
 use Rattle.scan.specs.First.{first_to, pick}
 use Rattle.scan.specs.Bytes.{part}
 use Rattle.tag_keys.specs.declared.Earlier.{Earlier}
