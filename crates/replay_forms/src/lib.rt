@@ -1,9 +1,6 @@
 // The forms over references, called on a local of the caller's own: so the replays, whose functions hand plain values on,
 // run them. What a function is given is copied into a local, which is lent for the call, and what it then holds is handed
 // back beside the answer. So each answers and leaves what the form by value does, and its contract is that form's.
-//
-// The borrow checker covers no function that lends a struct, or has a local of one that holds a reference: each one here
-// has a walk of its code under proofs/.
 #![tactic(auto)]
 
 ghost use Rattle.std.specs.Prelude.{◌≡◌, true, false};
