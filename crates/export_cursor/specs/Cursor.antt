@@ -1,5 +1,5 @@
 -- An iterator that stands in lent memory: three tables of recorded keys, and four numbers, of which the last is only written.
-use Rattle.std.specs.Prelude.{ℕ, Bool, ◌&&◌, List, [], ◌∷◌, length, get_or, set, eqb}
+use Rattle.std.specs.Prelude.{ℕ, Bool, ◌&&◌, List, length, get_or, set, eqb}
 use Rattle.scan.specs.First.{pick}
 use Rattle.tag_step.specs.declared.Place.{Place}
 use Rattle.tag_step.specs.declared.Place.TheVariants.{Done, Next, SkipValue, SkipEqValue}

@@ -9,6 +9,7 @@ ghost use Rattle.export_cursor.specs.Cursor.{place_from, kind_of, position_of, s
 use tag_step::Place;
 
 // A place from its kind and its position, in a tag that ends at `end`.
+#[tactic(auto, unfolding(crate::specs::Cursor::place_from))]
 pub fn place_from(end: usize, kind: usize, position: usize) -> Place
     ensures { result ≡ place_from end kind position }
 {
@@ -28,6 +29,7 @@ pub fn place_from(end: usize, kind: usize, position: usize) -> Place
 }
 
 // The kind of a place.
+#[tactic(auto, unfolding(crate::specs::Cursor::kind_of))]
 pub fn kind_of(place: Place) -> usize
     ensures { result ≡ kind_of place }
 {
@@ -40,6 +42,7 @@ pub fn kind_of(place: Place) -> usize
 }
 
 // Its position.
+#[tactic(auto, unfolding(crate::specs::Cursor::position_of))]
 pub fn position_of(place: Place) -> usize
     ensures { result ≡ position_of place }
 {
