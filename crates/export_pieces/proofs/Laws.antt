@@ -4,9 +4,7 @@ use mathlib.Core.Path.{◌≡◌, refl, sym, ap, ◌∙◌}
 use mathlib.Core.Bool.{Bool, true, false, false≢true}
 use mathlib.Core.List.{List}
 use lib.ListN.{length, get_or, set}
-use lib.Dec.{eqb}
 use borrow.Author.Tests.{le-leb, lt-leb, lt-ltb, le-ltb, eq-eqb, ne_eqb}
-use Rattle.scan.specs.First.{pick}
 use Rattle.tag_step.specs.declared.Place.{Place}
 use Rattle.tag_batch.specs.declared.Why.{Why}
 use Rattle.tag_batch.specs.Batch.{why_number}
@@ -15,13 +13,13 @@ use Rattle.tag_phase.specs.declared.Phase.TheVariants.{Begin}
 use Rattle.tag_pieces.specs.declared.Cursor.{Cursor}
 use Rattle.tag_pieces.specs.declared.Fed.{Fed}
 use Rattle.tag_pieces.specs.declared.Fed.TheVariants.{Accepted, Finished, TooLong, LendMore}
-use Rattle.tag_pieces.specs.Reader.{hold, fed_number, is_accepted, Grown, grown, piece_in}
+use Rattle.tag_pieces.specs.Reader.{hold, fed_number, is_accepted, grown, piece_in}
 use Rattle.tag_takes.specs.declared.Took.{Took}
 use Rattle.tag_takes.specs.declared.Took.TheVariants.{Read, WrongLength}
 use Rattle.tag_takes.specs.Takes.{Some, Wrong, TakeEnd, take_end, lent_reader, take_all_of}
 use Rattle.tag_takes.specs.Takes as Takes
 use Rattle.export_cursor.specs.Cursor.{settled_of}
-use Rattle.export_pieces.specs.Pieces.{phase_kind, phase_start, phase_end, phase_put, finished_in, place_in, cursor_in, PieceEnd, piece_end, reader_fed, piece_shown, mz_piece_of, finish_end, mz_finish_of, NONE, stopped_in, numbers_left, reader_by, AnswersEnd, answers_end, take_shown, mz_take_of}
+use Rattle.export_pieces.specs.Pieces.{phase_kind, phase_start, phase_end, phase_put, place_in, cursor_in, piece_end, reader_fed, piece_shown, mz_piece_of, finish_end, mz_finish_of, NONE, numbers_left, reader_by, answers_end, take_shown, mz_take_of}
 
 -- A piece.
 

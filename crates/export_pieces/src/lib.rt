@@ -58,6 +58,7 @@ fn phase_from(kind: usize, start: usize, end: usize) -> Phase
 }
 
 // The number of a phase.
+#[tactic(auto, unfolding(crate::specs::Pieces::phase_kind))]
 fn phase_kind(phase: Phase) -> usize
     ensures { result ≡ phase_kind phase }
 {
@@ -76,6 +77,7 @@ fn phase_kind(phase: Phase) -> usize
 }
 
 // Where its key starts.
+#[tactic(auto, unfolding(crate::specs::Pieces::phase_start))]
 fn phase_start(phase: Phase) -> usize
     ensures { result ≡ phase_start phase }
 {
@@ -94,6 +96,7 @@ fn phase_start(phase: Phase) -> usize
 }
 
 // Where it ends.
+#[tactic(auto, unfolding(crate::specs::Pieces::phase_end))]
 fn phase_end(phase: Phase) -> usize
     ensures { result ≡ phase_end phase }
 {

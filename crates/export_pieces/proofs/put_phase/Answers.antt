@@ -1,0 +1,5 @@
+-- `export_pieces::put_phase` meets its contract.
+use Rattle.export_pieces.proofs.put_phase.Goals as goal
+
+pub returns : goal.returns
+returns c = rw (c.phase_kind-kind.ensures, c.phase_start-start.ensures, c.phase_end-end.ensures)
