@@ -6,14 +6,13 @@ use mathlib.Core.List.{List}
 use lib.ListN.{length, get_or, set}
 use borrow.Author.Tests.{lt-ltb, le-ltb}
 use Rattle.tag_step.specs.declared.Place.{Place}
-use Rattle.tag_step.specs.declared.IterState.{IterState}
 use Rattle.tag_step.specs.Next.{lent_state}
 use Rattle.tag_batch.specs.declared.Batch.{Batch}
 use Rattle.tag_batch.specs.declared.Batch.TheVariants.{Read, WrongTables}
 use Rattle.tag_batch.specs.declared.Why.{Why}
-use Rattle.tag_batch.specs.Batch.{why_number, Batched, batched, batch_of}
+use Rattle.tag_batch.specs.Batch.{why_number, batched, batch_of}
 use Rattle.export_cursor.specs.Cursor.{place_from, settled_of, held_in_lem}
-use Rattle.export_tags.specs.Reading.{BatchEnd, batch_end, NONE, state_by, across, read_batch_of}
+use Rattle.export_tags.specs.Reading.{batch_end, NONE, state_by, across, read_batch_of}
 
 module _ (tag starts ends hashes state out : List ℕ) (html checks : Bool) (place : Place) (stands : place ≡ place_from (length tag) (get_or state 0 0) (get_or state 1 0))
     (b : Batch) (starts' ends' hashes' out' : List ℕ) (e : batched b starts' ends' hashes' out' ≡ batch_of tag (lent_state place html checks starts ends hashes (get_or state 2 0)) out) where
