@@ -7,7 +7,7 @@ use mir.Val.{Val}
 use base.Logic.{SProp, ent, sep, ex, via, ex_e, snd∗, id⊢}
 use types.Logic.{Logic, sem}
 use contract.Monad.{fact}
-use types.Kit.{‵, raw, ◌⊛◌, some, later, ◌$◌, ◌∵◌, !, qed, move, use1, split, pick, rewrite, await, updating, now as at_once, show, done}
+use types.Kit.{raw, ◌⊛◌, some, later, ◌$◌, ◌∵◌, !, qed, move, use1, split, pick, rewrite, await, updating, now as at_once, show, done}
 use denote.Signature.{type_at}
 use denote.Steps.{heard}
 use denote.Triple.Clauses.{Ended, Clauses, AtExit, at_exit, lasts, ensured, closing}

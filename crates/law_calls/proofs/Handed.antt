@@ -4,12 +4,11 @@ use mathlib.Core.Path.{◌≡◌, refl}
 use mathlib.Core.List.{[], ◌∷◌}
 use seplogic.Ra.Ura.{Ura}
 use mir.Val.{Val}
-use base.Logic.{SProp, ent, sep, ex, id⊢}
-use base.Stored.{Gv}
+use base.Logic.{SProp, ent, sep, id⊢}
 use base.Fml.{GName, fres}
 use types.Logic.{Logic, sem}
 use contract.Monad.{fact}
-use types.Kit.{‵, raw, ◌⊛◌, some, later, ◌$◌, ◌∵◌, !, qed, move, use1, split, join, pick, rewrite, keep, await, updating, now as at_once, done}
+use types.Kit.{‵, raw, ◌⊛◌, some, later, ◌$◌, ◌∵◌, !, qed, move, use1, split, pick, rewrite, await, updating, now as at_once, done}
 use denote.RattleType.{RattleType}
 use denote.Signature.{type_at}
 use denote.Steps.{heard}

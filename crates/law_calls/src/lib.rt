@@ -1,3 +1,2 @@
-// What a proof by hand has of a call that it makes. Lemmas of the walks of `tag_carried`, `scope_listing_carried`,
-// `scope_nil_carried`, `replay_forms` and `replay_pieces`, and no code.
+// What a proof by hand has of a call that it makes: lemmas for a walk of the code, and no code. No crate has such a walk now.
 #![tactic(auto)]
