@@ -1,27 +1,20 @@
 -- What a take gives, one law for each way; and what the code knows of a reader of its own: its tables have full size.
-use Prim.Native.Nat.{ℕ, ◌≤◌}
+use Prim.Native.Nat.{◌≤◌}
 use mathlib.Core.Path.{◌≡◌, refl, sym, ap, ◌∙◌}
 use mathlib.Core.Bool.{Bool, true, false, not, ◌&&◌, ◌||◌}
-use mathlib.Core.List.{List, [], ◌∷◌}
-use mathlib.Core.Logic.{⊎_elim}
-use types.Run.{OneOf}
-use denote.Enum.Declared.{tag_of}
 use lib.ListN.{length, replicate, take}
 use lib.Dec.{leb}
-use borrow.Author.Tests.{leb-true, eqb-false}
-use Rattle.scan.specs.First.{pick}
+use borrow.Author.Tests.{leb-true}
 use Rattle.scan.proofs.Bytes.{both}
 use Rattle.tag_keys.specs.Keys.{capacity, KeysIn}
 use Rattle.tag_step.specs.declared.Answer.{Answer}
 use Rattle.tag_step.specs.declared.Answer.TheVariants.{End, DoubleQ, SingleQ, Unquoted, Empty, ExpectedEq, ExpectedValue, UnquotedValue, ExpectedQuote, Duplicated, KeyTableFull, BadState}
-use Rattle.tag_step.specs.declared.IterState.{IterState}
 use Rattle.tag_step.specs.declared.Place.TheVariants.{Done}
 use Rattle.tag_step.specs.declared.Step.{Step}
 use Rattle.tag_step.specs.Next.{keys_of, keys_lent, good_of, state_good, next_of, lent_state}
 use Rattle.tag_step.specs.Look.{look_of}
 use Rattle.tag_step.specs.Numbers.{numbered_step}
 use Rattle.tag_step.specs.Run.{is_end}
-use Rattle.tag_step.specs.contracts.Answer as A
 use Rattle.tag_step.proofs.Whole.{good_inside}
 use Rattle.tag_step.proofs.Good.{Sized}
 use Rattle.tag_step.proofs.Lent.{full_next, full_held, full_leaves}
@@ -95,9 +88,9 @@ module _ (r : Reader) where
 
 -- An answer as the code sees it.
 
-no_end : (a : Answer) → OneOf (1 ∷ 2 ∷ 3 ∷ 4 ∷ 5 ∷ 6 ∷ 7 ∷ 8 ∷ 9 ∷ 10 ∷ 11 ∷ []) (tag_of A.the_type a) → is_end a ≡ false
+no_end : (a : Answer) → (a ≡ End → ⊥) → is_end a ≡ false
 unfolding is_end
-no_end End k = absurd (⊎_elim (eqb-false 0 1 refl) (⊎_elim (eqb-false 0 2 refl) (⊎_elim (eqb-false 0 3 refl) (⊎_elim (eqb-false 0 4 refl) (⊎_elim (eqb-false 0 5 refl) (⊎_elim (eqb-false 0 6 refl) (⊎_elim (eqb-false 0 7 refl) (⊎_elim (eqb-false 0 8 refl) (⊎_elim (eqb-false 0 9 refl) (⊎_elim (eqb-false 0 10 refl) (eqb-false 0 11 refl)))))))))) k)
+no_end End n = absurd (n refl)
 no_end (DoubleQ k v) t = refl
 no_end (SingleQ k v) t = refl
 no_end (Unquoted k v) t = refl
@@ -110,7 +103,7 @@ no_end (Duplicated this earlier) t = refl
 no_end (KeyTableFull this) t = refl
 no_end BadState t = refl
 
-pub phase_anew : (a : Answer) (phase : Phase) → OneOf (1 ∷ 2 ∷ 3 ∷ 4 ∷ 5 ∷ 6 ∷ 7 ∷ 8 ∷ 9 ∷ 10 ∷ 11 ∷ []) (tag_of A.the_type a) → Begin ≡ phase_after a phase
+pub phase_anew : (a : Answer) (phase : Phase) → (a ≡ End → ⊥) → Begin ≡ phase_after a phase
 phase_anew a phase k = rw (no_end a k)
 
 pub phase_stays : (a : Answer) (phase : Phase) → a ≡ End → phase ≡ phase_after a phase

@@ -18,6 +18,7 @@ use tag_pieces::{Cursor, Fed, Feeding, HOLD, Reader, Take, Taken};
 use tag_step::{Answer, IterState, Place, Standing};
 
 // A reader that is opened at `offset`, with checks on. Nothing is held.
+#[tactic(auto, unfolding(tag_step::specs::Next::no_keys, tag_pieces::specs::Reader::opened_reader))]
 pub fn new(offset: usize, html: bool) -> Reader
     ensures { result ≡ opened_reader offset html true }
 {
@@ -37,6 +38,7 @@ pub fn new(offset: usize, html: bool) -> Reader
 }
 
 // Sets whether keys are checked and recorded.
+#[tactic(auto, unfolding(tag_pieces::specs::Reader::with_checks))]
 pub fn with_checks(r: Reader, checks: bool) -> Reader
     ensures { result ≡ with_checks checks r }
 {
