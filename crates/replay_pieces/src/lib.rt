@@ -1,8 +1,6 @@
 // The reader's calls over references (crate `reader_in_place`), called on a local of the caller's own: so a program, whose
 // functions hand plain values on, runs them. What a function is given is copied into a local, which is lent for the call, and
 // what it then holds is handed back beside the answer. So each does what the call by value does, and its contract is that one's.
-//
-// The borrow checker covers no function that lends a struct: each one here has a walk of its code under proofs/.
 #![tactic(auto)]
 
 ghost use Rattle.std.specs.Prelude.{◌≡◌};
