@@ -4,11 +4,7 @@ use Prim.Native.Nat.{ℕ, ◌+◌, ◌≤◌}
 use mathlib.Core.Path.{◌≡◌, refl, ap, ◌∙◌}
 use mathlib.Core.Bool.{true, false}
 use mathlib.Core.List.{List, [], ◌∷◌}
-use mathlib.Core.Logic.{⊎_elim}
 use native.Mathlib.Omega.{arith}
-use types.Run.{OneOf}
-use denote.Enum.Declared.{tag_of}
-use borrow.Author.Tests.{eqb-false}
 use lib.Dec.{leb}
 use Rattle.scan.specs.First.{pick}
 use Rattle.scan.proofs.Laws.{picks}
@@ -23,7 +19,6 @@ use Rattle.scope_table.specs.declared.Changed.{Changed}
 use Rattle.scope_table.specs.declared.NamespaceResult.{NamespaceResult}
 use Rattle.scope_table.specs.declared.NamespaceResult.TheVariants.{Done, InvalidXmlPrefixBind, InvalidXmlnsPrefixBind, InvalidPrefixForXml, InvalidPrefixForXmlns, TooManyBindings, TooDeeplyNested, BindingTableFull, TextFull, BadResolver, LendMore, WrongLength}
 use Rattle.scope_table.specs.declared.Form.TheVariants as Is
-use Rattle.scope_table.specs.contracts.NamespaceResult as E
 use Rattle.scope_table.proofs.Lists.{cut_zeros}
 use Rattle.scope_change.specs.Change.{whole}
 use Rattle.scope_change.specs.declared.Room.{Room}
@@ -83,7 +78,7 @@ module _ (s : List ℕ) (from : ℕ) (t r : List ℕ) (h : Head) (good : Ready t
     push_back m = rw m at back_is
 
 -- An answer at another variant than LendMore, which is the eleventh.
-pub not_more : (a : NamespaceResult) → OneOf (0 ∷ 1 ∷ 2 ∷ 3 ∷ 4 ∷ 5 ∷ 6 ∷ 7 ∷ 8 ∷ 9 ∷ 11 ∷ []) (tag_of E.the_type a) → is_more a ≡ false
+pub not_more : (a : NamespaceResult) → (a ≡ LendMore → ⊥) → is_more a ≡ false
 not_more Done k = refl
 not_more (InvalidXmlPrefixBind a e) k = refl
 not_more (InvalidXmlnsPrefixBind a e) k = refl
@@ -94,8 +89,7 @@ not_more (TooDeeplyNested depth) k = refl
 not_more BindingTableFull k = refl
 not_more TextFull k = refl
 not_more BadResolver k = refl
-not_more LendMore k =
-    absurd (⊎_elim (eqb-false 10 0 refl) (⊎_elim (eqb-false 10 1 refl) (⊎_elim (eqb-false 10 2 refl) (⊎_elim (eqb-false 10 3 refl) (⊎_elim (eqb-false 10 4 refl) (⊎_elim (eqb-false 10 5 refl) (⊎_elim (eqb-false 10 6 refl) (⊎_elim (eqb-false 10 7 refl) (⊎_elim (eqb-false 10 8 refl) (⊎_elim (eqb-false 10 9 refl) (eqb-false 10 11 refl)))))))))) k)
+not_more LendMore k = absurd (k refl)
 not_more WrongLength k = refl
 
 -- By value.

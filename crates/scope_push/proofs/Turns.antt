@@ -5,10 +5,7 @@ use mathlib.Core.Path.{◌≡◌, refl, sym, ap, subst, ◌∙◌}
 use mathlib.Core.Bool.{true, false}
 use mathlib.Core.List.{List, [], ◌∷◌}
 use mathlib.Core.Logic.{⊎_elim, ◌⊎◌}
-use types.Run.{OneOf}
-use denote.Enum.Declared.{tag_of}
 use lib.ListN.{length}
-use borrow.Author.Tests.{eqb-false}
 use Rattle.tag_step.specs.declared.Span.{Span}
 use Rattle.tag_step.specs.declared.Place.{Place}
 use Rattle.tag_step.specs.declared.Place.TheVariants.{Next}
@@ -18,7 +15,6 @@ use Rattle.tag_step.specs.declared.Found.{Found}
 use Rattle.tag_step.specs.Read.{recover_of}
 use Rattle.tag_step.specs.Next.{place_good, standing, unchecked_of}
 use Rattle.tag_step.specs.Run.{is_end, cons_unless, answers_of}
-use Rattle.tag_step.specs.contracts.Answer as E
 use Rattle.tag_step.proofs.Run.{todo}
 use Rattle.tag_step.proofs.Unchecked.{unchecked_less, unchecked_stands, unchecked_turn, unchecked_opened}
 use Rattle.tag_parts.specs.Parts.{key_part, value_part}
@@ -35,19 +31,20 @@ use Rattle.scope_push.specs.Run.{then_given, one_by_one}
 abbrev pub Quoted : Answer → Span → Span → Type 0
 Quoted a k v = (a ≡ DoubleQ k v) ⊎ (a ≡ SingleQ k v)
 
--- the variants that have none
-abbrev pub unquoted : List ℕ
-unquoted = 0 ∷ 3 ∷ 4 ∷ 5 ∷ 6 ∷ 7 ∷ 8 ∷ 9 ∷ 10 ∷ 11 ∷ []
+-- one without
+pub record Unquoting (a : Answer) : Type 0 where
+  pub no_double : (k v : Span) → a ≡ DoubleQ k v → ⊥
+  pub no_single : (k v : Span) → a ≡ SingleQ k v → ⊥
 
 takes : (s : List ℕ) (more : List Answer) (a : Answer) (k v : Span) → Quoted a k v → declarations_of s (cons_unless (is_end a) a more) ≡ declaration_of (key_part s a) (value_part s a) k v ∷ declarations_of s more
 unfolding declarations_of declaration_then cons_unless is_end
 takes s more a k v = ⊎_elim (λ e. rw e) (λ e. rw e)
 
-stops : (s : List ℕ) (more : List Answer) (a : Answer) → OneOf unquoted (tag_of E.the_type a) → declarations_of s (cons_unless (is_end a) a more) ≡ []
+stops : (s : List ℕ) (more : List Answer) (a : Answer) → Unquoting a → declarations_of s (cons_unless (is_end a) a more) ≡ []
 unfolding declarations_of declaration_then cons_unless is_end
 stops s more End t = refl
-stops s more (DoubleQ k v) t = absurd (⊎_elim (eqb-false 1 0 refl) (⊎_elim (eqb-false 1 3 refl) (⊎_elim (eqb-false 1 4 refl) (⊎_elim (eqb-false 1 5 refl) (⊎_elim (eqb-false 1 6 refl) (⊎_elim (eqb-false 1 7 refl) (⊎_elim (eqb-false 1 8 refl) (⊎_elim (eqb-false 1 9 refl) (⊎_elim (eqb-false 1 10 refl) (eqb-false 1 11 refl))))))))) t)
-stops s more (SingleQ k v) t = absurd (⊎_elim (eqb-false 2 0 refl) (⊎_elim (eqb-false 2 3 refl) (⊎_elim (eqb-false 2 4 refl) (⊎_elim (eqb-false 2 5 refl) (⊎_elim (eqb-false 2 6 refl) (⊎_elim (eqb-false 2 7 refl) (⊎_elim (eqb-false 2 8 refl) (⊎_elim (eqb-false 2 9 refl) (⊎_elim (eqb-false 2 10 refl) (eqb-false 2 11 refl))))))))) t)
+stops s more (DoubleQ k v) t = absurd (t.no_double k v refl)
+stops s more (SingleQ k v) t = absurd (t.no_single k v refl)
 stops s more (Unquoted k v) t = refl
 stops s more (Empty k) t = refl
 stops s more (ExpectedEq p) t = refl
@@ -84,7 +81,7 @@ module _ (s : List ℕ) (place : Place) (stands : place_good s place ≡ true) (
 
   module _ (room : Room) (t r : List ℕ) (h : Head) where
     -- a refusal of the iterator, or its end
-    pub turn_stops : OneOf unquoted (tag_of E.the_type x.answer) → given Done t r h ≡ one_by_one room (declarations_at s place) t r h
+    pub turn_stops : Unquoting x.answer → given Done t r h ≡ one_by_one room (declarations_at s place) t r h
     unfolding one_by_one
     turn_stops w = sym (ap (λ (ds : List Declaration). one_by_one room ds t r h) (turn ∙ stops s _ x.answer w))
 
