@@ -4,10 +4,6 @@ use Prim.Native.Nat.{ℕ}
 use mathlib.Core.Path.{◌≡◌, refl, sym, ap, ◌∙◌}
 use mathlib.Core.Bool.{false}
 use mathlib.Core.List.{List, [], ◌∷◌}
-use mathlib.Core.Logic.{⊎_elim}
-use types.Run.{OneOf}
-use denote.Enum.Declared.{tag_of}
-use borrow.Author.Tests.{eqb-false}
 use lib.Dec.{eqb}
 use Rattle.scan.specs.First.{pick}
 use Rattle.scope_table.specs.Answer.{change_numbers, is_done, changed, numbered_change, form_number}
@@ -17,11 +13,9 @@ use Rattle.scope_table.specs.declared.Form.{Form}
 use Rattle.scope_table.specs.declared.Form.TheVariants as Is
 use Rattle.scope_table.specs.declared.NamespaceResult.{NamespaceResult}
 use Rattle.scope_table.specs.declared.NamespaceResult.TheVariants.{Done, InvalidXmlPrefixBind, InvalidXmlnsPrefixBind, InvalidPrefixForXml, InvalidPrefixForXmlns, TooManyBindings, TooDeeplyNested, BindingTableFull, TextFull, BadResolver, LendMore, WrongLength}
-use Rattle.scope_table.specs.contracts.NamespaceResult as E
 
-pub refused : (a : NamespaceResult) → OneOf (1 ∷ 2 ∷ 3 ∷ 4 ∷ 5 ∷ 6 ∷ 7 ∷ 8 ∷ 9 ∷ 10 ∷ 11 ∷ []) (tag_of E.the_type a) → is_done a ≡ false
-refused Done k =
-    absurd (⊎_elim (eqb-false 0 1 refl) (⊎_elim (eqb-false 0 2 refl) (⊎_elim (eqb-false 0 3 refl) (⊎_elim (eqb-false 0 4 refl) (⊎_elim (eqb-false 0 5 refl) (⊎_elim (eqb-false 0 6 refl) (⊎_elim (eqb-false 0 7 refl) (⊎_elim (eqb-false 0 8 refl) (⊎_elim (eqb-false 0 9 refl) (⊎_elim (eqb-false 0 10 refl) (eqb-false 0 11 refl)))))))))) k)
+pub refused : (a : NamespaceResult) → (a ≡ Done → ⊥) → is_done a ≡ false
+refused Done k = absurd (k refl)
 refused (InvalidXmlPrefixBind a e) k = refl
 refused (InvalidXmlnsPrefixBind a e) k = refl
 refused (InvalidPrefixForXml a e) k = refl
