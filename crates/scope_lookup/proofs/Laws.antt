@@ -2,19 +2,14 @@
 -- value of a record, and what is no bound or unknown name.
 use Prim.Native.Nat.{ℕ, zero, suc, ◌+◌, ◌-◌, ◌≤◌, ◌<◌}
 use mathlib.Core.Path.{◌≡◌, refl, sym, ap, ◌∙◌}
-use mathlib.Core.Bool.{Bool, true, false}
-use mathlib.Core.List.{List, [], ◌∷◌}
-use mathlib.Core.Logic.{⊎_elim}
-use types.Run.{OneOf}
-use denote.Enum.Declared.{tag_of}
+use mathlib.Core.Bool.{true, false}
+use mathlib.Core.List.{List, []}
 use native.Mathlib.Nat.{not-suc-le-zero}
 use native.Mathlib.Numerals.{sub-one}
 use native.Mathlib.Omega.{arith}
-use lib.Dec.{eqb, leb, ltb}
 use lib.ListN.{length, take, get_or}
 use lib.Seq.{length-take-le, get_or-take}
-use borrow.Author.Tests.{eq-eqb, ne_eqb, eqb-false, lt-ltb, le-ltb}
-use Rattle.scan.specs.First.{pick}
+use borrow.Author.Tests.{eq-eqb, ne_eqb, lt-ltb, le-ltb}
 use Rattle.scan.specs.Bytes.{part, same_bytes}
 use Rattle.scan.proofs.Bytes.{same_ne, same_length}
 use Rattle.scan.proofs.Lists.{part_length, part_at}
@@ -23,12 +18,10 @@ use Rattle.scope_table.specs.Records.{row_at, record_at, value_start, value_end,
 use Rattle.scope_table.specs.Table.{TEXT}
 use Rattle.scope_table.specs.declared.NamespaceBinding.{NamespaceBinding}
 use Rattle.scope_table.proofs.Rows.{rows_before}
-use Rattle.scope_table.specs.Lists.{last_below}
 use Rattle.scope_lookup.specs.Inside.{Inside}
 use Rattle.scope_lookup.specs.Lookup.{has_prefix, bound_by, value_or, uri_part, prefix_part}
 use Rattle.scope_lookup.specs.declared.Resolved.{Resolved}
 use Rattle.scope_lookup.specs.declared.Resolved.TheVariants.{Bound, Unbound, Unknown, BadResolver, WrongLength}
-use Rattle.scope_lookup.specs.contracts.Resolved as E
 
 -- what a record in use is read with: its row is lent, and it ends within the text
 module _ (records : List ℕ) (count size i : ℕ) (s : Inside records count size) (h : i < count) where

@@ -5,7 +5,7 @@ use mathlib.Core.List.{List}
 use lib.Dec.{eqb}
 use lib.ListN.{get_or, length}
 use Rattle.scan.specs.First.{pick}
-use Rattle.scope_lookup.specs.Lookup.{resolved_numbers, namespace_of, namespace_numbers}
+use Rattle.scope_lookup.specs.Lookup.{resolved_numbers, namespace_numbers}
 use Rattle.scope_lookup.specs.declared.Resolved.{Resolved}
 use Rattle.scope_lookup.specs.declared.Resolved.TheVariants as Found
 use Rattle.scope_lookup.specs.declared.Namespace.{Namespace}

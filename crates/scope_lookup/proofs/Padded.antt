@@ -1,19 +1,18 @@
 -- A lookup in lent memory is that in the resolver it stands for: zeros after the lent text and the lent records change
 -- nothing that a lookup reads, since every record in use ends within the lent text.
 use Prim.Native.Nat.{ℕ, ◌≤◌, ◌<◌}
-use mathlib.Core.Path.{◌≡◌, refl, sym, ap, ◌∙◌}
-use mathlib.Core.Bool.{Bool, true, false}
+use mathlib.Core.Path.{◌≡◌, sym, ap, ◌∙◌}
+use mathlib.Core.Bool.{Bool}
 use mathlib.Core.List.{List}
 use native.Mathlib.Omega.{arith}
-use lib.ListN.{length, take}
+use lib.ListN.{length}
 use lib.Seq.{take-length}
-use Rattle.scan.specs.First.{pick}
 use Rattle.scan.specs.Bytes.{same_bytes}
 use Rattle.scan.proofs.Lists.{part_same, pad_take}
 use Rattle.scan.specs.Lists.{pad_to}
 use Rattle.scope_table.specs.Records.{record_at, value_start, value_end, prefix_in}
-use Rattle.scope_table.specs.Table.{TEXT, NUMBERS, valid_of}
-use Rattle.scope_table.specs.Lent.{stands_for, lent, form_of}
+use Rattle.scope_table.specs.Table.{TEXT, NUMBERS}
+use Rattle.scope_table.specs.Lent.{lent, form_of}
 use Rattle.scope_table.proofs.Pad.{pad_records}
 use Rattle.scope_table.proofs.Good.{Ready, ready, lies}
 use Rattle.scope_table.proofs.Calls.{asks_bad, asks_good}

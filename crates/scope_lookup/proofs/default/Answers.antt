@@ -1,8 +1,6 @@
 -- `scope_lookup::default` meets its contract.
 use Prim.Native.Nat.{◌≤◌}
 use mathlib.Core.Path.{◌∙◌}
-use native.Mathlib.Omega.{arith}
-use borrow.Author.Tests.{not-true, not-false}
 use Rattle.scope_table.specs.Records.{record_at}
 use Rattle.scope_table.specs.Table.{TEXT}
 use Rattle.scope_lookup.specs.Lookup.{is_default, default_of}

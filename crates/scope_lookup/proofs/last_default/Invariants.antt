@@ -1,16 +1,11 @@
 -- `scope_lookup::last_default` meets its contract: the last of all records is the last of the first i. The measure is i.
-use Prim.Native.Nat.{ℕ, ◌≤◌, ◌<◌, ◌-◌}
-use mathlib.Core.Path.{◌≡◌, refl, sym, ap, ◌∙◌}
+use Prim.Native.Nat.{ℕ, ◌≤◌}
+use mathlib.Core.Path.{◌≡◌}
 use mathlib.Core.Bool.{Bool}
 use mathlib.Core.List.{List}
-use native.Mathlib.Omega.{arith}
-use borrow.Author.Tests.{eq-eqb, ne_eqb}
 use Rattle.scope_table.specs.Records.{record_at}
-use Rattle.scope_table.specs.Table.{TEXT}
 use Rattle.scope_table.specs.Lists.{last_below}
 use Rattle.scope_lookup.specs.Lookup.{is_default}
-use Rattle.scope_table.proofs.Last.{last_hit, last_miss, last_none}
-use Rattle.scope_lookup.proofs.Laws.{row_lent}
 use Rattle.scope_lookup.proofs.last_default.Given as goal
 
 abbrev pub passes : (records : List ℕ) (i : ℕ) → Bool

@@ -1,15 +1,12 @@
 -- `scope_lookup::last_with` meets its contract: the last of all records is the last of the first i. The measure is i.
-use Prim.Native.Nat.{ℕ, ◌+◌, ◌-◌, ◌<◌, ◌≤◌}
-use mathlib.Core.Path.{◌≡◌, refl, sym, ap, ◌∙◌}
+use Prim.Native.Nat.{ℕ, ◌≤◌}
+use mathlib.Core.Path.{◌≡◌}
 use mathlib.Core.Bool.{Bool}
 use mathlib.Core.List.{List}
-use native.Mathlib.Omega.{arith}
-use lib.ListN.{length, take}
-use Rattle.scope_table.specs.Records.{record_at, value_end}
+use lib.ListN.{take}
+use Rattle.scope_table.specs.Records.{record_at}
 use Rattle.scope_table.specs.Lists.{last_below}
 use Rattle.scope_lookup.specs.Lookup.{has_prefix}
-use Rattle.scope_table.proofs.Last.{last_hit, last_miss, last_none}
-use Rattle.scope_lookup.proofs.Laws.{row_lent, record_ends, unlike_length, like_length, unlike_last}
 use Rattle.scope_lookup.proofs.last_with.Given as goal
 
 abbrev pub passes : (text records name : List ℕ) (len i : ℕ) → Bool

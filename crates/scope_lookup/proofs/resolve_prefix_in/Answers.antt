@@ -1,7 +1,5 @@
 -- `scope_lookup::resolve_prefix_in` meets its contract: the test, then the lookup.
-use mathlib.Core.Path.{◌≡◌, sym, ◌∙◌}
-use Rattle.scope_table.specs.Lent.{form_of}
-use Rattle.scope_table.specs.declared.Form.TheVariants as Is
+use mathlib.Core.Path.{sym, ◌∙◌}
 use Rattle.scope_table.proofs.Good.{ready}
 use Rattle.scope_table.proofs.Calls.{asks_wrong}
 use Rattle.scope_lookup.specs.Lookup.{resolve_prefix_of}

@@ -5,7 +5,6 @@ use native.Mathlib.Omega.{arith}
 use Rattle.scope_table.specs.Records.{record_at, value_end}
 use Rattle.scope_table.specs.Table.{TEXT}
 use Rattle.scope_table.specs.declared.NamespaceBinding.{NamespaceBinding}
-use Rattle.scope_lookup.specs.declared.Resolved.{Resolved}
 use mathlib.Core.List.{List}
 use Rattle.scope_lookup.specs.Inside.{Inside}
 use Rattle.scope_lookup.specs.Lookup.{bound_by}
