@@ -3,13 +3,10 @@
 use Prim.Native.Nat.{ℕ, ◌≤◌}
 use mathlib.Core.Path.{◌≡◌, refl, sym, ap, ◌∙◌}
 use mathlib.Core.Bool.{Bool, true, false, ◌&&◌}
-use mathlib.Core.List.{List, [], ◌∷◌}
-use mathlib.Core.Logic.{⊎_elim}
-use types.Run.{OneOf}
-use denote.Enum.Declared.{tag_of}
+use mathlib.Core.List.{List}
 use lib.ListN.{length, get_or}
 use lib.Dec.{eqb, ltb}
-use borrow.Author.Tests.{eqb-true, eqb-false}
+use borrow.Author.Tests.{eqb-true}
 use Rattle.scan.specs.Bytes.{inside}
 use Rattle.scan.proofs.Bytes.{both}
 use Rattle.name.specs.Split.{has_colon, prefix_of}
@@ -20,7 +17,6 @@ use Rattle.scope_table.specs.declared.Head.{Head}
 use Rattle.scope_table.specs.declared.Told.{Told}
 use Rattle.scope_table.specs.declared.Form.{Form}
 use Rattle.scope_table.specs.declared.Form.TheVariants as Is
-use Rattle.scope_table.specs.contracts.Form as F
 use Rattle.scope_table.proofs.Good.{ready}
 use Rattle.scope_table.proofs.Calls.{asks, asks_wrong, asks_bad, asks_good}
 use Rattle.scope_lookup.specs.Inside.{Inside}
@@ -105,8 +101,8 @@ module _ (tag from to : List ℕ) (elements : ℕ) (kinds begins ends text recor
           ∙ asks_bad text records h (names (form_number Is.WrongLength) kinds begins ends) (λ x. written_of (nth_of tag from to elements x) (length from) kinds begins ends) (λ x. names (form_number Is.Bad) kinds begins ends) e)
 
       -- what is not of the right form, by its number
-      pub names_refused : (f : Form) → form_of text records h ≡ f → OneOf (1 ∷ 2 ∷ []) (tag_of F.the_type f) → names (form_number f) kinds begins ends ≡ all
-      names_refused Is.Good e k = absurd (⊎_elim (eqb-false 0 1 refl) (eqb-false 0 2 refl) k)
+      pub names_refused : (f : Form) → form_of text records h ≡ f → (f ≡ Is.Good → ⊥) → names (form_number f) kinds begins ends ≡ all
+      names_refused Is.Good e k = absurd (k refl)
       names_refused Is.Bad e k = names_bad e
       names_refused Is.WrongLength e k = names_wrong e
 

@@ -8,7 +8,6 @@ use Rattle.tag_step.specs.declared.Place.{Place}
 use Rattle.tag_step.specs.declared.Standing.{Standing}
 use Rattle.tag_step.specs.Next.{stands_at}
 use Rattle.scope_table.specs.declared.Head.{Head}
-use Rattle.scope_nil.specs.declared.HasNil.{HasNil}
 use Rattle.scope_nil.specs.declared.Left.{Left}
 use Rattle.scope_nil.specs.Nil.{nil_number, nil_left_by, has_nil_in}
 use Rattle.export_cursor.specs.Cursor.{place_from, settled_of, held_in_lem}

@@ -1,5 +1,5 @@
 -- The theorems at work: what `has_nil` says of tags within ` xmlns:xsi="http://www.w3.org/2001/XMLSchema-instance"`.
-use Prim.Native.Nat.{ℕ, ◌+◌}
+use Prim.Native.Nat.{ℕ}
 use mathlib.Core.Path.{◌≡◌, refl, sym}
 use mathlib.Core.Bool.{Bool, true, false}
 use mathlib.Core.List.{List, [], ◌∷◌, ◌++◌}

@@ -1,17 +1,17 @@
 -- `has_nil` on lent memory. Zeros after lent scopes change nothing that a name is looked up in; lent key tables are the
 -- iterator whose missing places are unused, and those of full size are its own.
-use Prim.Native.Nat.{ℕ, zero, suc, ◌+◌, ◌-◌, ◌≤◌, ◌<◌}
-use mathlib.Core.Path.{◌≡◌, refl, sym, ap, subst, ◌∙◌, fun_ext}
+use Prim.Native.Nat.{ℕ, zero, suc, ◌-◌, ◌≤◌, ◌<◌}
+use mathlib.Core.Path.{◌≡◌, refl, sym, ap, subst, ◌∙◌}
 use mathlib.Core.Bool.{Bool, true, false, ◌&&◌}
-use mathlib.Core.List.{List, [], ◌∷◌, ◌++◌, append-nil}
+use mathlib.Core.List.{List, append-nil}
 use native.Mathlib.Nat.{zero-add}
 use native.Mathlib.Omega.{arith}
-use lib.Dec.{eqb, leb}
+use lib.Dec.{eqb}
 use lib.ListN.{length, take, drop, replicate, length-append, drop_of_length-le}
 use lib.Seq.{take_all, take-length, length-take-le}
 use borrow.Author.Tests.{le-leb, lt-leb}
 use Rattle.scan.specs.First.{pick}
-use Rattle.scan.specs.Bytes.{part, inside, same_bytes, bytes}
+use Rattle.scan.specs.Bytes.{inside, same_bytes, bytes}
 use Rattle.scan.specs.Lists.{over, pad_to}
 use Rattle.scan.proofs.Laws.{picks}
 use Rattle.scan.proofs.Bytes.{both}
@@ -33,7 +33,7 @@ use Rattle.scope_table.specs.Records.{record_at, value_start, value_end}
 use Rattle.scope_table.specs.Table.{TEXT, NUMBERS, resolver_of, valid_of}
 use Rattle.scope_table.specs.Lent.{stands_for, lent, form_of}
 use Rattle.scope_table.proofs.Pad.{pad_records}
-use Rattle.scope_table.proofs.Good.{Ready, ready}
+use Rattle.scope_table.proofs.Good.{ready}
 use Rattle.scope_table.proofs.Full.{full_asks}
 use Rattle.scope_table.proofs.Calls.{asks_wrong, asks_bad, asks_good}
 use Rattle.scope_table.specs.declared.Head.{Head}

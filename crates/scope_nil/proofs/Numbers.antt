@@ -5,7 +5,6 @@ use lib.Dec.{eqb}
 use Rattle.scan.specs.First.{pick}
 use Rattle.tag_step.specs.declared.IterState.{IterState}
 use Rattle.scope_nil.specs.declared.Nil.{Nil}
-use Rattle.scope_nil.specs.declared.Nil.TheVariants as Nil
 use Rattle.scope_nil.specs.declared.HasNil.{HasNil}
 use Rattle.scope_nil.specs.Nil.{nil_number, said, numbered_nil}
 

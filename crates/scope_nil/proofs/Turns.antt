@@ -1,16 +1,12 @@
 -- The search for a `nil`: a law for each way of coming back, and why it ends. Each answer that is not the end leaves less
 -- to read, so that a budget above what is left is enough, and the search from a state is one answer and the search from
 -- the state after it.
-use Prim.Native.Nat.{ℕ, zero, suc, ◌+◌, ◌-◌, ◌≤◌, ◌<◌}
+use Prim.Native.Nat.{ℕ, zero, suc, ◌+◌, ◌≤◌, ◌<◌}
 use mathlib.Core.Path.{◌≡◌, refl, sym, ap, subst, ◌∙◌}
 use mathlib.Core.Bool.{Bool, true, false}
-use mathlib.Core.List.{List, [], ◌∷◌}
-use mathlib.Core.Logic.{⊎_elim}
+use mathlib.Core.List.{List}
 use native.Mathlib.Omega.{arith}
-use types.Run.{OneOf}
-use denote.Enum.Declared.{tag_of}
 use lib.ListN.{length, replicate}
-use borrow.Author.Tests.{eqb-false}
 use Rattle.scan.specs.First.{pick}
 use Rattle.scan.specs.Bytes.{same_bytes, bytes}
 use Rattle.name.specs.Split.{has_colon, prefix_of, local_of}
@@ -29,8 +25,6 @@ use Rattle.tag_step.specs.Read.{recover_of}
 use Rattle.tag_step.specs.Next.{keys_of, state_good, no_keys, bad_reading, leaves, next_of, lent_state}
 use Rattle.tag_step.specs.Run.{is_end}
 use Rattle.tag_parts.specs.Parts.{key_part, value_part, truth_of}
-use Rattle.tag_step.specs.contracts.Answer as A
-use Rattle.tag_parts.specs.contracts.Truth as T
 use Rattle.tag_step.proofs.Whole.{next_bad, next_steps}
 use Rattle.tag_step.proofs.Good.{Sized, next_stays_good, next_sized}
 use Rattle.tag_step.proofs.Run.{todo, todo_falls}
@@ -45,9 +39,9 @@ use Rattle.scope_nil.specs.Nil.{said, nil_left_by, is_yes, instance_uri, is_nil,
 
 -- One attribute.
 
-pub no_yes : (t : Truth) → OneOf (1 ∷ 2 ∷ []) (tag_of T.the_type t) → is_yes t ≡ false
+pub no_yes : (t : Truth) → (t ≡ Yes → ⊥) → is_yes t ≡ false
 unfolding is_yes
-no_yes Yes k = absurd (⊎_elim (eqb-false 0 1 refl) (eqb-false 0 2 refl) k)
+no_yes Yes k = absurd (k refl)
 no_yes No k = refl
 no_yes Neither k = refl
 
@@ -128,9 +122,9 @@ module _ (x : NamespaceResolver) (s : List ℕ) (st : IterState) (z : Sized st) 
 
 -- An answer as the code sees it.
 
-pub no_end : (a : Answer) → OneOf (1 ∷ 2 ∷ 3 ∷ 4 ∷ 5 ∷ 6 ∷ 7 ∷ 8 ∷ 9 ∷ 10 ∷ 11 ∷ []) (tag_of A.the_type a) → is_end a ≡ false
+pub no_end : (a : Answer) → (a ≡ End → ⊥) → is_end a ≡ false
 unfolding is_end
-no_end End k = absurd (⊎_elim (eqb-false 0 1 refl) (⊎_elim (eqb-false 0 2 refl) (⊎_elim (eqb-false 0 3 refl) (⊎_elim (eqb-false 0 4 refl) (⊎_elim (eqb-false 0 5 refl) (⊎_elim (eqb-false 0 6 refl) (⊎_elim (eqb-false 0 7 refl) (⊎_elim (eqb-false 0 8 refl) (⊎_elim (eqb-false 0 9 refl) (⊎_elim (eqb-false 0 10 refl) (eqb-false 0 11 refl)))))))))) k)
+no_end End t = absurd (t refl)
 no_end (DoubleQ k v) t = refl
 no_end (SingleQ k v) t = refl
 no_end (Unquoted k v) t = refl
