@@ -41,6 +41,6 @@ settled_of state before after recorded =
     (set (set (set state 2 recorded) 0 (kind_of after)) 1 (position_of after))
 
 -- the iterator that stands in lent memory
-unfoldable pub held_in_lem : (tag starts ends hashes state : List ℕ) (html checks : Bool) → IterState
-held_in_lem tag starts ends hashes state html checks =
+unfoldable pub held_in : (tag starts ends hashes state : List ℕ) (html checks : Bool) → IterState
+held_in tag starts ends hashes state html checks =
     lent_state (place_from (length tag) (get_or state 0 0) (get_or state 1 0)) html checks starts ends hashes (get_or state 2 0)

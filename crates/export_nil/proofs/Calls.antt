@@ -10,7 +10,7 @@ use Rattle.tag_step.specs.Next.{stands_at}
 use Rattle.scope_table.specs.declared.Head.{Head}
 use Rattle.scope_nil.specs.declared.Left.{Left}
 use Rattle.scope_nil.specs.Nil.{nil_number, nil_left_by, has_nil_in}
-use Rattle.export_cursor.specs.Cursor.{place_from, settled_of, held_in_lem}
+use Rattle.export_cursor.specs.Cursor.{place_from, settled_of, held_in}
 use Rattle.export_memory.specs.Boundary.{head_in}
 use Rattle.export_nil.specs.Search.{nil_end, nil_end_of, has_nil_by}
 
@@ -24,7 +24,7 @@ module _ (text records head tag keyStarts keyEnds keyHashes state : List ℕ) (h
       nil_left_by (standing place) out keyStarts' keyEnds' keyHashes' ≡ has_nil_in tag (stands_at (standing place) keyStarts keyEnds keyHashes) text records h →
       state' ≡ settled_of state place out.place out.count → r ≡ nil_number out.answer →
       nil_end r keyStarts' keyEnds' keyHashes' state' ≡ has_nil_by text records head tag keyStarts keyEnds keyHashes state html checks
-  unfolding nil_end_of has_nil_by held_in_lem
+  unfolding nil_end_of has_nil_by held_in
   nil_made h place out keyStarts' keyEnds' keyHashes' state' r read at made left number =
       ap (λ (x : List ℕ). nil_end r keyStarts' keyEnds' keyHashes' x) left
       ∙ ap (λ (k : ℕ). nil_end k keyStarts' keyEnds' keyHashes' (settled_of state place out.place out.count)) number

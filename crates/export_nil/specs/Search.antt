@@ -3,7 +3,7 @@ use Rattle.std.specs.Prelude.{ℕ, Bool, List, length, get_or}
 use Rattle.tag_step.specs.declared.Place.{Place}
 use Rattle.scope_nil.specs.declared.HasNil.{HasNil}
 use Rattle.scope_nil.specs.Nil.{nil_number, has_nil_in}
-use Rattle.export_cursor.specs.Cursor.{place_from, settled_of, held_in_lem}
+use Rattle.export_cursor.specs.Cursor.{place_from, settled_of, held_in}
 use Rattle.export_memory.specs.Boundary.{head_in}
 
 -- what a call answers, and the iterator's arrays after it
@@ -27,4 +27,4 @@ nil_end_of state before h =
 unfoldable pub has_nil_by : (text records head tag keyStarts keyEnds keyHashes state : List ℕ) (html checks : Bool) → NilEnd
 has_nil_by text records head tag keyStarts keyEnds keyHashes state html checks =
     nil_end_of state (place_from (length tag) (get_or state 0 0) (get_or state 1 0))
-    (has_nil_in tag (held_in_lem tag keyStarts keyEnds keyHashes state html checks) text records (head_in head))
+    (has_nil_in tag (held_in tag keyStarts keyEnds keyHashes state html checks) text records (head_in head))

@@ -11,13 +11,13 @@ use Rattle.tag_batch.specs.declared.Batch.{Batch}
 use Rattle.tag_batch.specs.declared.Batch.TheVariants.{Read, WrongTables}
 use Rattle.tag_batch.specs.declared.Why.{Why}
 use Rattle.tag_batch.specs.Batch.{why_number, batched, batch_of}
-use Rattle.export_cursor.specs.Cursor.{place_from, settled_of, held_in_lem}
+use Rattle.export_cursor.specs.Cursor.{place_from, settled_of, held_in}
 use Rattle.export_tags.specs.Reading.{batch_end, NONE, state_by, across, read_batch_of}
 
 module _ (tag starts ends hashes state out : List ℕ) (html checks : Bool) (place : Place) (stands : place ≡ place_from (length tag) (get_or state 0 0) (get_or state 1 0))
     (b : Batch) (starts' ends' hashes' out' : List ℕ) (e : batched b starts' ends' hashes' out' ≡ batch_of tag (lent_state place html checks starts ends hashes (get_or state 2 0)) out) where
   went : across state place (length out) (batched b starts' ends' hashes' out') ≡ read_batch_of tag starts ends hashes state out html checks
-  unfolding read_batch_of held_in_lem
+  unfolding read_batch_of held_in
   went =
       ap (across state place (length out)) e
       ∙ ap (λ (p : Place). across state p (length out) (batch_of tag (lent_state p html checks starts ends hashes (get_or state 2 0)) out)) stands

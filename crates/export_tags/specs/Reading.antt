@@ -5,7 +5,7 @@ use Rattle.tag_step.specs.declared.Place.{Place}
 use Rattle.tag_batch.specs.declared.Batch.{Batch}
 use Rattle.tag_batch.specs.declared.Batch.TheVariants.{Read, WrongTables}
 use Rattle.tag_batch.specs.Batch.{why_number, Batched, batch_of}
-use Rattle.export_cursor.specs.Cursor.{place_from, settled_of, held_in_lem}
+use Rattle.export_cursor.specs.Cursor.{place_from, settled_of, held_in}
 
 -- what a call answers, and the lent memory after it
 pub record BatchEnd : Type 0 where
@@ -44,4 +44,4 @@ across state before room x =
 unfoldable pub read_batch_of : (tag starts ends hashes state out : List ℕ) (html checks : Bool) → BatchEnd
 read_batch_of tag starts ends hashes state out html checks =
     across state (place_from (length tag) (get_or state 0 0) (get_or state 1 0)) (length out)
-    (batch_of tag (held_in_lem tag starts ends hashes state html checks) out)
+    (batch_of tag (held_in tag starts ends hashes state html checks) out)

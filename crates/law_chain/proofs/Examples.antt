@@ -13,7 +13,7 @@ use Rattle.scan.specs.Lists.{over}
 use Rattle.scan.proofs.Bytes.{same_refl}
 use Rattle.tag_keys.specs.Keys.{key_good, key_bad, count_good, table_good, name_at, same_key, oldest_of, earlier_of, checked_by, checked_of, written_by, count_by}
 use Rattle.tag_step.specs.Read.{is_at, is_quote, skip_to, skip_of, recover_of, key_eq, key_to, key_from, key_at, quoted, closed_of, quoted_to, quoted_of, unquoted_to, other_of, value_by, value_from, value_at}
-use Rattle.tag_step.specs.Next.{check_of, kept_by, place_at, bare_by, bare_to, bare_of, valued_by_lem, valued_to, valued_of, read_key, read_at, step_from, step_of, place_good, keys_of, state_good, no_keys, bad_reading, leaves, next_of, opened}
+use Rattle.tag_step.specs.Next.{check_of, kept_by, place_at, bare_by, bare_to, bare_of, valued_by, valued_to, valued_of, read_key, read_at, step_from, step_of, place_good, keys_of, state_good, no_keys, bad_reading, leaves, next_of, opened}
 use Rattle.tag_step.specs.Run.{is_end, cons_unless, run_of, answers_of}
 use Rattle.tag_parts.specs.Parts.{key_part, value_part}
 use Rattle.name.specs.Split.{colon_at, has_colon, colon_of, prefix_of, local_at, local_of}
@@ -115,7 +115,7 @@ chain_fine = (
 )
 
 pub chain_not_refused : NoneRefused LIMIT chain
-unfolding NoneRefused pushed_of body_text attributes_then attribute_then quote_byte first_of first_to first_from is_space not_space ends_key is_byte part same_bytes bytes_from bytes key_good key_bad count_good table_good name_at same_key oldest_of earlier_of checked_by checked_of written_by count_by is_at is_quote skip_to skip_of recover_of key_eq key_to key_from key_at quoted closed_of quoted_to quoted_of unquoted_to other_of value_by value_from value_at check_of kept_by place_at bare_by bare_to bare_of valued_by_lem valued_to valued_of read_key read_at step_from step_of place_good keys_of state_good no_keys bad_reading leaves next_of opened is_end cons_unless run_of answers_of inside key_part value_part xml_prefix xmlns_prefix xml_uri xmlns_uri is_xml is_xmlns is_xml_uri is_xmlns_uri reserved_bind opening is_named declares_of declared_prefix all_below all_zero over built_in Table.text_of level_before is_record opens_built_in is_chain is_rising is_within is_clear is_table valid_of fresh_of bound_of refusal_of append_of named_of judge_of settle_of declare_of limited_of declaration_of declaration_then declarations_of tag_answers then_of declare_all raised_of push_of
+unfolding NoneRefused pushed_of body_text attributes_then attribute_then quote_byte first_of first_to first_from is_space not_space ends_key is_byte part same_bytes bytes_from bytes key_good key_bad count_good table_good name_at same_key oldest_of earlier_of checked_by checked_of written_by count_by is_at is_quote skip_to skip_of recover_of key_eq key_to key_from key_at quoted closed_of quoted_to quoted_of unquoted_to other_of value_by value_from value_at check_of kept_by place_at bare_by bare_to bare_of valued_by valued_to valued_of read_key read_at step_from step_of place_good keys_of state_good no_keys bad_reading leaves next_of opened is_end cons_unless run_of answers_of inside key_part value_part xml_prefix xmlns_prefix xml_uri xmlns_uri is_xml is_xmlns is_xml_uri is_xmlns_uri reserved_bind opening is_named declares_of declared_prefix all_below all_zero over built_in Table.text_of level_before is_record opens_built_in is_chain is_rising is_within is_clear is_table valid_of fresh_of bound_of refusal_of append_of named_of judge_of settle_of declare_of limited_of declaration_of declaration_then declarations_of tag_answers then_of declare_all raised_of push_of
 chain_not_refused = (refl, (refl, (refl, tt)))
 
 -- What lookups hand back after the three pushes.
@@ -186,5 +186,5 @@ within = (pushed_of LIMIT reserved).resolver
 -- The verdict on that default is no, so that the tag is none of those that the theorem speaks of. It is pushed all the same, as by
 -- the crate, and `a` is bound to that URI.
 pub reserved_default_example : (FineTags reserved → ⊥) × (NoneRefused LIMIT reserved) × (handed_back within (bytes "a") (resolve_of (bytes "a") true within) ≡ bound xmlns_uri)
-unfolding FineTags NoneNo verdict_of verdict_on verdict_default NoneRefused pushed_of body_text attributes_then attribute_then quote_byte first_of first_to first_from is_space not_space ends_key is_byte part same_bytes bytes_from bytes key_good key_bad count_good table_good name_at same_key oldest_of earlier_of checked_by checked_of written_by count_by is_at is_quote skip_to skip_of recover_of key_eq key_to key_from key_at quoted closed_of quoted_to quoted_of unquoted_to other_of value_by value_from value_at check_of kept_by place_at bare_by bare_to bare_of valued_by_lem valued_to valued_of read_key read_at step_from step_of place_good keys_of state_good no_keys bad_reading leaves next_of opened is_end cons_unless run_of answers_of inside key_part value_part xml_prefix xmlns_prefix xml_uri xmlns_uri is_xml is_xmlns is_xml_uri is_xmlns_uri reserved_bind opening is_named declares_of declared_prefix all_below all_zero over built_in Table.text_of level_before is_record opens_built_in is_chain is_rising is_within is_clear is_table valid_of fresh_of bound_of refusal_of append_of named_of judge_of settle_of declare_of limited_of declaration_of declaration_then declarations_of tag_answers then_of declare_all raised_of push_of colon_at has_colon prefix_of last_below prefix_in has_prefix is_default value_or explicit_of default_of among_of resolve_prefix_of resolve_of uri_part handed_back
+unfolding FineTags NoneNo verdict_of verdict_on verdict_default NoneRefused pushed_of body_text attributes_then attribute_then quote_byte first_of first_to first_from is_space not_space ends_key is_byte part same_bytes bytes_from bytes key_good key_bad count_good table_good name_at same_key oldest_of earlier_of checked_by checked_of written_by count_by is_at is_quote skip_to skip_of recover_of key_eq key_to key_from key_at quoted closed_of quoted_to quoted_of unquoted_to other_of value_by value_from value_at check_of kept_by place_at bare_by bare_to bare_of valued_by valued_to valued_of read_key read_at step_from step_of place_good keys_of state_good no_keys bad_reading leaves next_of opened is_end cons_unless run_of answers_of inside key_part value_part xml_prefix xmlns_prefix xml_uri xmlns_uri is_xml is_xmlns is_xml_uri is_xmlns_uri reserved_bind opening is_named declares_of declared_prefix all_below all_zero over built_in Table.text_of level_before is_record opens_built_in is_chain is_rising is_within is_clear is_table valid_of fresh_of bound_of refusal_of append_of named_of judge_of settle_of declare_of limited_of declaration_of declaration_then declarations_of tag_answers then_of declare_all raised_of push_of colon_at has_colon prefix_of last_below prefix_in has_prefix is_default value_or explicit_of default_of among_of resolve_prefix_of resolve_of uri_part handed_back
 reserved_default_example = (λ fine. fine.0.verdicts.0 refl, (refl, tt), refl)

@@ -19,7 +19,7 @@ use Rattle.tag_step.specs.declared.Answer.{Answer}
 use Rattle.tag_step.specs.declared.Answer.TheVariants.{End, DoubleQ, SingleQ, Unquoted, Empty, ExpectedEq, ExpectedValue, UnquotedValue, ExpectedQuote, Duplicated, KeyTableFull, BadState}
 use Rattle.tag_step.specs.declared.Found.{Found}
 use Rattle.tag_step.specs.Read.{span, recover_of, key_at, quoted, closed_of}
-use Rattle.tag_step.specs.Next.{Keys, Reading, reading, check_of, kept_by, valued_by_lem, valued_to, read_at}
+use Rattle.tag_step.specs.Next.{Keys, Reading, reading, check_of, kept_by, valued_by, valued_to, read_at}
 use Rattle.tag_step.specs.Run.{cons_unless, run_from}
 use Rattle.tag_step.proofs.Paths.{next_from}
 use Rattle.tag_step.proofs.Whole.{KeyBy, at_in, StartIn, recover_in}
@@ -99,7 +99,7 @@ module _ (s : List ℕ) (checks : Bool) (k : Keys) (o : ℕ) (h : o ≤ length s
 
   valued_cut : (key : Span) (eq : ℕ) → key_at s o ≡ Valued key eq → KeyBy (length s) o key eq → eq < length s → (c : Checked)
       → c ≡ check_of s checks k key → Goal (valued_to s false checks k key eq c)
-  unfolding valued_to valued_by_lem is_quoted closed_of
+  unfolding valued_to valued_by is_quoted closed_of
   valued_cut key eq r by l (Fresh n) is =
       rw is
       (value_ways s false key eq _ refl (λ (x : Found) (_ : ℕ). Goal (reading x (kept_by s checks k key (check_of s checks k key))))

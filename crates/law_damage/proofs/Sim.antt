@@ -19,7 +19,7 @@ use Rattle.tag_step.specs.declared.Start.TheVariants.{From, Ended}
 use Rattle.tag_step.specs.declared.Answer.{Answer}
 use Rattle.tag_step.specs.declared.Answer.TheVariants.{End, DoubleQ, SingleQ, Unquoted, Empty, ExpectedEq, ExpectedValue, UnquotedValue, ExpectedQuote, Duplicated, KeyTableFull, BadState}
 use Rattle.tag_step.specs.Read.{found, is_quote, skip_to, skip_of, recover_of, quoted, closed_of, value_at}
-use Rattle.tag_step.specs.Next.{Keys, Reading, reading, check_of, kept_by, valued_by_lem, valued_to, valued_of, read_key, read_at}
+use Rattle.tag_step.specs.Next.{Keys, Reading, reading, check_of, kept_by, valued_by, valued_to, valued_of, read_key, read_at}
 use Rattle.tag_step.specs.Run.{is_end, cons_unless, run_from}
 use Rattle.tag_step.proofs.Paths.{next_from, value_bad}
 use Rattle.tag_step.proofs.Whole.{StartIn, recover_in}
@@ -105,7 +105,7 @@ module _ {f : ℕ → ℕ} {s t : List ℕ} {o : ℕ} {checks : Bool} {ks kt : K
   keys_hurt = keeps_move w checks key eq cl.key_by (omega (arith, (closed_order cl).1)) like
 
   read_hurt : read_at t false checks kt (f o) ≡ reading (found (UnquotedValue (f v)) (SkipValue (f v))) hurt_keys
-  unfolding hurt_keys read_at read_key valued_of valued_to valued_by_lem
+  unfolding hurt_keys read_at read_key valued_of valued_to valued_by
   read_hurt =
       let at : eq < v = (closed_order cl).1 in
       rw (key_move w (rw cl.read at), cl.read, checks_move w checks key eq cl.key_by at like.names, cl.fresh, sym value_hurt)

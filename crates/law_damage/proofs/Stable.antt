@@ -22,7 +22,7 @@ use Rattle.tag_step.specs.declared.Answer.{Answer}
 use Rattle.tag_step.specs.declared.Answer.TheVariants.{End, DoubleQ, SingleQ, Unquoted, Empty, ExpectedEq, ExpectedValue, UnquotedValue, ExpectedQuote, Duplicated, KeyTableFull, BadState}
 use Rattle.tag_step.specs.declared.Found.{Found}
 use Rattle.tag_step.specs.Read.{recover_of}
-use Rattle.tag_step.specs.Next.{Keys, Reading, check_of, kept_by, bare_by, bare_of, bare_to, valued_by_lem, valued_of, valued_to, read_key, read_at, step_from, step_of, place_good, keys_of, state_good, next_of}
+use Rattle.tag_step.specs.Next.{Keys, Reading, check_of, kept_by, bare_by, bare_of, bare_to, valued_by, valued_of, valued_to, read_key, read_at, step_from, step_of, place_good, keys_of, state_good, next_of}
 use Rattle.tag_step.specs.Look.{look_at, look_start, look_of}
 use Rattle.tag_step.proofs.Whole.{at_in, starts_in}
 use Rattle.tag_step.proofs.Ways.{step_ways}
@@ -120,7 +120,7 @@ module _ (s t : List ℕ) (m : ℕ) (agree : Agree s t m) where
       (λ key eq c e i a is l.
       let g = at_in s 61 eq a in
       let r : eq < m = omega (arith, look_past s html key eq g c) in
-      let found = ap (valued_by_lem t html key eq) (sym (checked_same (check_of s checks k key))) ∙ valued_move w html key eq _ refl (omega arith) g (check_of s checks k key) (rw is at l) ∙ found_same _ in
+      let found = ap (valued_by t html key eq) (sym (checked_same (check_of s checks k key))) ∙ valued_move w html key eq _ refl (omega arith) g (check_of s checks k key) (rw is at l) ∙ found_same _ in
       rw (is, key_move w (rw e r), e, checks_move w checks key eq i r like, checked_same (check_of s checks k key), kept_same checks k key (check_of s checks k key) (alike w checks key eq i r), found))
 
 -- a step looks no less far than to where it begins

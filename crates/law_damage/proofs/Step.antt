@@ -23,7 +23,7 @@ use Rattle.tag_step.specs.declared.KeyRead.TheVariants.{NoKey, Bare, Valued}
 use Rattle.tag_step.specs.declared.Answer.TheVariants.{DoubleQ, SingleQ, Unquoted, ExpectedValue, UnquotedValue, ExpectedQuote}
 use Rattle.tag_step.specs.declared.Found.{Found}
 use Rattle.tag_step.specs.Read.{span, found, is_at, is_quote, skip_to, skip_of, recover_of, key_eq, key_to, key_from, key_at, quoted, closed_of, quoted_of, value_at}
-use Rattle.tag_step.specs.Next.{Keys, Reading, check_of, kept_by, place_at, bare_by, bare_to, bare_of, valued_by_lem, valued_to, valued_of, read_key, read_at}
+use Rattle.tag_step.specs.Next.{Keys, Reading, check_of, kept_by, place_at, bare_by, bare_to, bare_of, valued_by, valued_to, valued_of, read_key, read_at}
 use Rattle.tag_step.specs.Look.{look_value, look_by, look_at}
 use Rattle.tag_step.proofs.Paths.{quoted_open, quoted_closed, value_none, value_quoted, value_unquoted, value_bad}
 use Rattle.tag_step.proofs.Whole.{KeyBy, at_in}
@@ -238,8 +238,8 @@ module _ {f : ℕ → ℕ} {s t : List ℕ} {o m : ℕ} (w : Window f s t o m) w
     value_move = value_ways s html key eq v here (λ (x : Found) (n : ℕ). n < m → Moves x) same_none same_closed same_open same_unquoted same_bad
 
     pub valued_move : (c : Checked) → look_by s html eq c < m
-        → valued_by_lem t html (move_span f key) (f eq) (move_checked f c) ≡ move_found f (valued_by_lem s html key eq c)
-    unfolding valued_by_lem look_by move_answer move_place Moves
+        → valued_by t html (move_span f key) (f eq) (move_checked f c) ≡ move_found f (valued_by s html key eq c)
+    unfolding valued_by look_by move_answer move_place Moves
     valued_move (Fresh n) c = value_move c
     valued_move (Same p) c = refl
     valued_move Full c = refl
@@ -296,8 +296,8 @@ module _ {f : ℕ → ℕ} {s t : List ℕ} {o m : ℕ} (w : Window f s t o m) (
 
 -- in XML mode a step looks no further than to where reading goes on
 valued_stops : (s : List ℕ) (key : Span) (eq : ℕ) → eq < length s → (c : Checked)
-    → look_by s false eq c ≤ start_at (length s) (recover_of s (valued_by_lem s false key eq c).place)
-unfolding valued_by_lem look_by closed_of recover_of
+    → look_by s false eq c ≤ start_at (length s) (recover_of s (valued_by s false key eq c).place)
+unfolding valued_by look_by closed_of recover_of
 valued_stops s key eq l (Fresh n) =
     let v = first_from not_space s (eq + 1) in
     let a = first not_space s (eq + 1) (omega arith) in

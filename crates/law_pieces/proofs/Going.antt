@@ -38,7 +38,7 @@ use Rattle.tag_pieces.specs.Reader.{hold, held_of, iterator_of, fed_of, grown_by
 use Rattle.law_damage.proofs.Stable.{next_stable, grown}
 use Rattle.law_steps.specs.Steps.{EndStays}
 use Rattle.law_steps.proofs.Steps.{end_stays}
-use Rattle.law_pieces.specs.Pieces.{Event, Piece, Finish, Ask, after, after_all, told_by, told_at_lem, told_of, LastByte}
+use Rattle.law_pieces.specs.Pieces.{Event, Piece, Finish, Ask, after, after_all, told_by, told_at, told_of, LastByte}
 use Rattle.law_pieces.proofs.Takes.{take_waits, take_answers, fed_accepted}
 use Rattle.law_pieces.proofs.Looks.{look_of_answer}
 
@@ -281,8 +281,8 @@ module _ (o : ℕ) (html checks : Bool) (told : List Answer) (r : Reader) (g : G
 
 -- Any event, and any number of them.
 
-pub going_after : (o : ℕ) (html checks : Bool) (told : List Answer) (r : Reader) (e : Event) → Going o html checks told r → Going o html checks (told ++ told_at_lem e r) (after e r)
-unfolding after told_at_lem
+pub going_after : (o : ℕ) (html checks : Bool) (told : List Answer) (r : Reader) (e : Event) → Going o html checks told r → Going o html checks (told ++ told_at e r) (after e r)
+unfolding after told_at
 going_after o html checks told r (Piece p) g = rw (append-nil told) (going_piece o html checks told r g p)
 going_after o html checks told r Finish g = rw (append-nil told) (going_finish o html checks told r g)
 going_after o html checks told r Ask g = going_ask o html checks told r g
@@ -291,5 +291,5 @@ pub going_all : (o : ℕ) (html checks : Bool) (events : List Event) (told : Lis
 unfolding after_all told_of
 going_all o html checks [] told r g = rw (append-nil told) g
 going_all o html checks (e ∷ es) told r g =
-    subst (λ (l : List Answer). Going o html checks l (after_all es (after e r))) (append_assoc told (told_at_lem e r) (told_of es (after e r)))
-    (going_all o html checks es (told ++ told_at_lem e r) (after e r) (going_after o html checks told r e g))
+    subst (λ (l : List Answer). Going o html checks l (after_all es (after e r))) (append_assoc told (told_at e r) (told_of es (after e r)))
+    (going_all o html checks es (told ++ told_at e r) (after e r) (going_after o html checks told r e g))

@@ -21,7 +21,7 @@ use Rattle.tag_step.specs.declared.KeyRead.TheVariants.{NoKey, Bare, Valued}
 use Rattle.tag_step.specs.declared.Found.{Found}
 use Rattle.tag_step.specs.declared.Step.{Step}
 use Rattle.tag_step.specs.Read.{span, is_at, is_quote, recover_of, key_eq, key_to, key_from, key_at, quoted, closed_of, value_at}
-use Rattle.tag_step.specs.Next.{Keys, Reading, keys_of, bare_by, bare_to, valued_by_lem, valued_to, read_at, step_from, step_of, leaves}
+use Rattle.tag_step.specs.Next.{Keys, Reading, keys_of, bare_by, bare_to, valued_by, valued_to, read_at, step_from, step_of, leaves}
 use Rattle.tag_step.specs.Look.{look_value, look_by, look_at, look_start, look_of, look_next}
 use Rattle.tag_step.proofs.Whole.{at_in, starts_in, next_steps}
 use Rattle.tag_step.proofs.Ways.{value_ways, step_ways}
@@ -64,8 +64,8 @@ module _ (s : List ℕ) where
       (λ e i q m b. (refl, λ g. rw (sym b) at ((first is_space s v (omega arith)).found (omega arith))))
       (λ i q m. (refl, i))
 
-  valued_last : (html : Bool) (key : Span) (eq : ℕ) (c : Checked) → eq < length s → KeyEnds s key eq → LastByte s (look_by s html eq c) (valued_by_lem s html key eq c).answer
-  unfolding LastByte look_by valued_by_lem
+  valued_last : (html : Bool) (key : Span) (eq : ℕ) (c : Checked) → eq < length s → KeyEnds s key eq → LastByte s (look_by s html eq c) (valued_by s html key eq c).answer
+  unfolding LastByte look_by valued_by
   valued_last html key eq (Fresh n) l k = value_last html key eq l
   valued_last html key eq (Same p) l k = k.behind ∙ ap (first_from not_space s) k.end
   valued_last html key eq Full l k = k.behind ∙ ap (first_from not_space s) k.end

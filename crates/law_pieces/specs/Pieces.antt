@@ -42,15 +42,15 @@ told_by More = []
 told_by MoreKeys = []
 told_by (Gives a) = cons_unless (is_end a) a []
 
-unfoldable pub told_at_lem : Event → Reader → List Answer
-told_at_lem (Piece p) r = []
-told_at_lem Finish r = []
-told_at_lem Ask r = told_by (take_of r).taken
+unfoldable pub told_at : Event → Reader → List Answer
+told_at (Piece p) r = []
+told_at Finish r = []
+told_at Ask r = told_by (take_of r).taken
 
 -- what all takes told, in their order
 unfoldable pub told_of : List Event → Reader → List Answer
 told_of [] r = []
-told_of (e ∷ es) r = told_at_lem e r ++ told_of es (after e r)
+told_of (e ∷ es) r = told_at e r ++ told_of es (after e r)
 
 -- The answers are those of the whole tag, in order, whatever was asked between the pieces: what was told, and then what takes give
 -- after a finish, n being room enough for it. A piece that is refused changes nothing, so the tag is what is held.

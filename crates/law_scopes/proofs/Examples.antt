@@ -11,7 +11,7 @@ use Rattle.scan.specs.First.{first_of, first_to, first_from}
 use Rattle.scan.specs.Bytes.{is_space, not_space, ends_key, is_byte, part, inside, same_bytes, bytes_from, bytes}
 use Rattle.tag_keys.specs.Keys.{key_good, key_bad, count_good, table_good, name_at, same_key, oldest_of, earlier_of, checked_by, checked_of, written_by, count_by}
 use Rattle.tag_step.specs.Read.{is_at, is_quote, skip_to, skip_of, recover_of, key_eq, key_to, key_from, key_at, quoted, closed_of, quoted_to, quoted_of, unquoted_to, other_of, value_by, value_from, value_at}
-use Rattle.tag_step.specs.Next.{check_of, kept_by, place_at, bare_by, bare_to, bare_of, valued_by_lem, valued_to, valued_of, read_key, read_at, step_from, step_of, place_good, keys_of, state_good, no_keys, bad_reading, leaves, next_of, opened}
+use Rattle.tag_step.specs.Next.{check_of, kept_by, place_at, bare_by, bare_to, bare_of, valued_by, valued_to, valued_of, read_key, read_at, step_from, step_of, place_good, keys_of, state_good, no_keys, bad_reading, leaves, next_of, opened}
 use Rattle.tag_step.specs.Run.{is_end, cons_unless, run_of, answers_of}
 use Rattle.tag_parts.specs.Parts.{key_part, value_part}
 use Rattle.name.specs.Reserved.{xml_prefix, xmlns_prefix, xml_uri, xmlns_uri, is_xml, is_xmlns, is_xml_uri, is_xmlns_uri}
@@ -28,7 +28,7 @@ use Rattle.scope_declare.specs.declared.Judged.TheVariants.{Bind}
 use Rattle.scope_declare.specs.Declare.{wholly, named_of, judge_of, add_of, pop_of}
 use Rattle.scope_push.specs.Push.{declaration_of, declaration_then, declarations_of, tag_answers, push_of}
 use Rattle.law_scopes.specs.Calls.{Call, add, push, pop, set_level, set_limit, call_of, tests_form, left_by, answers_by}
-use Rattle.law_scopes.specs.Scopes.{Made, made, Scopes, scopes, ScopesTold, told, no_scopes, size_of, room_for, bind_in, settle_in, declare_in, declare_all_in, keeps, up_to, level_in_lem, call_in, scopes_after, answers_in}
+use Rattle.law_scopes.specs.Scopes.{Made, made, Scopes, scopes, ScopesTold, told, no_scopes, size_of, room_for, bind_in, settle_in, declare_in, declare_all_in, keeps, up_to, level_in, call_in, scopes_after, answers_in}
 use Rattle.law_scopes.specs.Made.{made_at, seen}
 use Rattle.law_scopes.specs.Promises.{PushPopReturns, ValidStays, ReachedValid, BadStays, BadOnly, SizedStays, NeverLends, SixteenExactly, EighteenExactly, NineteenExactly, ScopesFollow, BuiltInsStand, ScopesDetermine, ScopeSums, AnswersFollow}
 use Rattle.law_scopes.specs.DeadClear.{clears_all, level_arm_by, level_arm_of, crate_set_level_of, DeadClear}
@@ -67,7 +67,7 @@ pub history_example :
     × (call_in (push outer_tag 0) no_scopes ≡ told Done (scopes (outer []) 1 LIMIT))
     × (size_of both ≡ 7)
     × (scopes_after (history (set_level 0 (omega arith) ∷ [])) no_scopes ≡ no_scopes)
-unfolding first_of first_to first_from is_space not_space ends_key is_byte part same_bytes bytes_from bytes key_good key_bad count_good table_good name_at same_key oldest_of earlier_of checked_by checked_of written_by count_by is_at is_quote skip_to skip_of recover_of key_eq key_to key_from key_at quoted closed_of quoted_to quoted_of unquoted_to other_of value_by value_from value_at check_of kept_by place_at bare_by bare_to bare_of valued_by_lem valued_to valued_of read_key read_at step_from step_of place_good keys_of state_good no_keys bad_reading leaves next_of opened is_end cons_unless run_of answers_of inside key_part value_part xml_prefix xmlns_prefix xml_uri xmlns_uri is_xml is_xmlns is_xml_uri is_xmlns_uri reserved_bind opening is_named declares_of declared_prefix named_of judge_of tag_answers declaration_of declaration_then declarations_of no_scopes size_of room_for bind_in settle_in declare_in declare_all_in keeps up_to level_in_lem call_in scopes_after answers_in
+unfolding first_of first_to first_from is_space not_space ends_key is_byte part same_bytes bytes_from bytes key_good key_bad count_good table_good name_at same_key oldest_of earlier_of checked_by checked_of written_by count_by is_at is_quote skip_to skip_of recover_of key_eq key_to key_from key_at quoted closed_of quoted_to quoted_of unquoted_to other_of value_by value_from value_at check_of kept_by place_at bare_by bare_to bare_of valued_by valued_to valued_of read_key read_at step_from step_of place_good keys_of state_good no_keys bad_reading leaves next_of opened is_end cons_unless run_of answers_of inside key_part value_part xml_prefix xmlns_prefix xml_uri xmlns_uri is_xml is_xmlns is_xml_uri is_xmlns_uri reserved_bind opening is_named declares_of declared_prefix named_of judge_of tag_answers declaration_of declaration_then declarations_of no_scopes size_of room_for bind_in settle_in declare_in declare_all_in keeps up_to level_in call_in scopes_after answers_in
 history_example = (refl, refl, refl, refl, refl, refl, refl)
 
 -- The fresh resolver, and what calls make of it.

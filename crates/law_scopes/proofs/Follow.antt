@@ -21,7 +21,7 @@ use Rattle.scope_declare.specs.declared.Judged.TheVariants.{Keep, Bind}
 use Rattle.scope_declare.specs.Declare.{places_of, judge_of, settle_of, declare_of, add_of, pop_of, limited_of}
 use Rattle.scope_push.specs.Push.{Declaration, declarations_of, tag_answers, then_of, declare_all, raised_of, push_of}
 use Rattle.law_scopes.specs.Calls.{add, push, pop, set_level, set_limit, call_of}
-use Rattle.law_scopes.specs.Scopes.{ScopesTold, told, size_of, room_for, bind_in, settle_in, declare_in, declare_all_in, level_in_lem, call_in}
+use Rattle.law_scopes.specs.Scopes.{ScopesTold, told, size_of, room_for, bind_in, settle_in, declare_in, declare_all_in, level_in, call_in}
 use Rattle.law_scopes.specs.Made.{made_of, made_at, made_in, scopes_of, seen}
 use Rattle.law_scopes.specs.Promises.{Proper, ScopesFollow}
 use Rattle.law_scopes.proofs.Bound.{Takes}
@@ -75,11 +75,11 @@ module _ (x : NamespaceResolver) (g : Proper x) where
   unfolding declare_of declare_in
   declare_seen d = settle_seen (judge_of d.kind d.prefix d.value d.at) d.prefix d.value
 
-  dropped_seen : (to : ℕ) → scopes_of (dropped_of to x) ≡ level_in_lem to (scopes_of x)
-  unfolding scopes_of level_in_lem dropped_of kept_of
+  dropped_seen : (to : ℕ) → scopes_of (dropped_of to x) ≡ level_in to (scopes_of x)
+  unfolding scopes_of level_in dropped_of kept_of
   dropped_seen to = rw (dropped_made x g.sized f to)
 
-  level_seen : (to : ℕ) → seen (level_of to x) ≡ told Done (level_in_lem to (scopes_of x))
+  level_seen : (to : ℕ) → seen (level_of to x) ≡ told Done (level_in to (scopes_of x))
   unfolding level_of seen
   level_seen to = rw (g.valid, dropped_seen to)
 

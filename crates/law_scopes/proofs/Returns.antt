@@ -19,7 +19,7 @@ use Rattle.scope_declare.specs.declared.Judged.TheVariants.{Keep, Bind}
 use Rattle.scope_declare.specs.Declare.{judge_of, pop_of}
 use Rattle.scope_push.specs.Push.{Declaration, declarations_of, tag_answers, push_of}
 use Rattle.law_scopes.specs.Calls.{push, pop, call_of}
-use Rattle.law_scopes.specs.Scopes.{Made, made, Scopes, scopes, ScopesTold, told, room_for, bind_in, settle_in, declare_in, declare_all_in, up_to, level_in_lem, call_in}
+use Rattle.law_scopes.specs.Scopes.{Made, made, Scopes, scopes, ScopesTold, told, room_for, bind_in, settle_in, declare_in, declare_all_in, up_to, level_in, call_in}
 use Rattle.law_scopes.specs.Made.{made_of, made_at, made_in, scopes_of, seen}
 use Rattle.law_scopes.specs.Promises.{Proper, ValidStays, ScopesFollow, ScopesDetermine, PushPopReturns}
 use Rattle.law_scopes.proofs.Listed.{not_kept, up_append, up_list}
@@ -69,7 +69,7 @@ module _ (t : Scopes) where
       (record { new = []; bound = sym (append-nil t.bound); higher = refl; level = refl; limit = refl }))
 
   pop_back : (u : Scopes) → up_to t.level t.bound ≡ t.bound → Grown t u → call_in pop u ≡ told Done t
-  unfolding call_in level_in_lem
+  unfolding call_in level_in
   pop_back u w a =
       let e : u.level - 1 ≡ t.level = omega (arith, a.level) in
       rw (e, a.bound, up_append t.level t.bound a.new, w, a.higher, append-nil t.bound, a.limit)

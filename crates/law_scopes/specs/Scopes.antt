@@ -82,16 +82,16 @@ unfoldable pub up_to : ℕ → List Made → List Made
 up_to level [] = []
 up_to level (b ∷ more) = pick (keeps level b) (b ∷ up_to level more) (up_to level more)
 
-unfoldable pub level_in_lem : ℕ → Scopes → Scopes
-level_in_lem level t = scopes (up_to level t.bound) level t.limit
+unfoldable pub level_in : ℕ → Scopes → Scopes
+level_in level t = scopes (up_to level t.bound) level t.limit
 
 unfoldable pub call_in : Call → Scopes → ScopesTold
 call_in (add d p v) t = declare_in (record { kind = d; prefix = p; value = v; at = places_of 0 (length p) 0 (length v) }) t
 call_in (push s from) t =
     pick (leb DEEPEST t.level) (told (TooDeeplyNested DEEPEST) t)
     (declare_all_in (declarations_of s (tag_answers s from)) (scopes t.bound (t.level + 1) t.limit))
-call_in pop t = told Done (level_in_lem (t.level - 1) t)
-call_in (set_level to h) t = told Done (level_in_lem to t)
+call_in pop t = told Done (level_in (t.level - 1) t)
+call_in (set_level to h) t = told Done (level_in to t)
 call_in (set_limit limit) t = told Done (scopes t.bound t.level limit)
 
 -- what a history of calls leaves standing, and what its calls answer, the first made first

@@ -22,7 +22,7 @@ use Rattle.tag_step.specs.declared.Answer.TheVariants.{End, DoubleQ, SingleQ, Un
 use Rattle.tag_step.specs.declared.IterState.{IterState}
 use Rattle.tag_step.specs.declared.Step.{Step}
 use Rattle.tag_step.specs.Read.{span, is_at, is_quote, skip_to, skip_of, recover_of, key_eq, key_to, key_from, key_at, quoted, closed_of, quoted_to, quoted_of, unquoted_to, other_of, value_by, value_from, value_at}
-use Rattle.tag_step.specs.Next.{check_of, kept_by, place_at, bare_by, bare_to, bare_of, valued_by_lem, valued_to, valued_of, read_key, read_at, step_from, step_of, place_good, keys_of, state_good, no_keys, bad_reading, leaves, next_of, opened}
+use Rattle.tag_step.specs.Next.{check_of, kept_by, place_at, bare_by, bare_to, bare_of, valued_by, valued_to, valued_of, read_key, read_at, step_from, step_of, place_good, keys_of, state_good, no_keys, bad_reading, leaves, next_of, opened}
 use Rattle.tag_step.specs.Run.{run_of, answers_of}
 use Rattle.tag_step.proofs.Good.{Sized, opened_good, next_stays_good}
 use Rattle.tag_step.proofs.Run.{run_whole}
@@ -114,7 +114,7 @@ abbrev written : Row → Step
 written r = record { answer = r.answer; state = r.left }
 
 rows : map computed table ≡ map written table
-unfolding first_of first_to first_from is_space not_space ends_key is_byte part same_bytes bytes_from bytes times_prime hash_from hash_of key_good hash_is key_bad count_good table_good name_at same_key oldest_of earlier_of checked_by checked_of written_by count_by is_at is_quote skip_to skip_of recover_of key_eq key_to key_from key_at quoted closed_of quoted_to quoted_of unquoted_to other_of value_by value_from value_at check_of kept_by place_at bare_by bare_to bare_of valued_by_lem valued_to valued_of read_key read_at step_from step_of place_good keys_of state_good no_keys bad_reading leaves next_of
+unfolding first_of first_to first_from is_space not_space ends_key is_byte part same_bytes bytes_from bytes times_prime hash_from hash_of key_good hash_is key_bad count_good table_good name_at same_key oldest_of earlier_of checked_by checked_of written_by count_by is_at is_quote skip_to skip_of recover_of key_eq key_to key_from key_at quoted closed_of quoted_to quoted_of unquoted_to other_of value_by value_from value_at check_of kept_by place_at bare_by bare_to bare_of valued_by valued_to valued_of read_key read_at step_from step_of place_good keys_of state_good no_keys bad_reading leaves next_of
 rows = refl
 
 -- The rows of a full table. That it is good is not computed key by key: each is the tag's first byte, with one hash.
@@ -157,7 +157,7 @@ abbrev bare : Row
 bare = row "a b c" (crowded (Next 1) false) (ExpectedEq 4) (crowded (Next 4) false)
 
 full_rows : (computed refused ≡ written refused) × (computed refused_bare ≡ written refused_bare) × (computed repeated ≡ written repeated) × (computed bare ≡ written bare)
-unfolding first_of first_to first_from is_space not_space ends_key is_byte part same_bytes bytes_from bytes name_at same_key oldest_of earlier_of checked_by checked_of written_by count_by is_at is_quote skip_to skip_of recover_of key_eq key_to key_from key_at quoted closed_of quoted_to quoted_of unquoted_to other_of value_by value_from value_at check_of kept_by place_at bare_by bare_to bare_of valued_by_lem valued_to valued_of read_key read_at step_from step_of keys_of leaves
+unfolding first_of first_to first_from is_space not_space ends_key is_byte part same_bytes bytes_from bytes name_at same_key oldest_of earlier_of checked_by checked_of written_by count_by is_at is_quote skip_to skip_of recover_of key_eq key_to key_from key_at quoted closed_of quoted_to quoted_of unquoted_to other_of value_by value_from value_at check_of kept_by place_at bare_by bare_to bare_of valued_by valued_to valued_of read_key read_at step_from step_of keys_of leaves
 full_rows = (
   good_row refused (crowded_good (bytes "a b=''") (omega arith) refl false) refl,
   good_row refused_bare (crowded_good (bytes "a b") (omega arith) refl true) refl,
@@ -223,7 +223,7 @@ abbrev three_tag : List ℕ
 three_tag = bytes "a=1 b='2'"
 
 pub three_leaves : RecordsIts three_tag (opened 0 false true) (next_of three_tag (opened 0 false true)).state (SkipValue 2)
-unfolding LeavesExact RowLeft first_of first_to first_from is_space not_space ends_key is_byte part same_bytes bytes_from bytes times_prime hash_from hash_of key_good hash_is key_bad count_good table_good name_at same_key oldest_of earlier_of checked_by checked_of written_by count_by is_at is_quote skip_to skip_of recover_of key_eq key_to key_from key_at quoted closed_of quoted_to quoted_of unquoted_to other_of value_by value_from value_at check_of kept_by place_at bare_by bare_to bare_of valued_by_lem valued_to valued_of read_key read_at step_from step_of place_good keys_of state_good no_keys bad_reading leaves next_of opened
+unfolding LeavesExact RowLeft first_of first_to first_from is_space not_space ends_key is_byte part same_bytes bytes_from bytes times_prime hash_from hash_of key_good hash_is key_bad count_good table_good name_at same_key oldest_of earlier_of checked_by checked_of written_by count_by is_at is_quote skip_to skip_of recover_of key_eq key_to key_from key_at quoted closed_of quoted_to quoted_of unquoted_to other_of value_by value_from value_at check_of kept_by place_at bare_by bare_to bare_of valued_by valued_to valued_of read_key read_at step_from step_of place_good keys_of state_good no_keys bad_reading leaves next_of opened
 three_leaves = leaves_exact three_tag (opened 0 false true)
 
 key_there : (from eq : ℕ) (key : Span) → From 0 ≡ From from → key_at three_tag from ≡ Valued key eq → key ≡ span 0 1
@@ -267,7 +267,7 @@ abbrev five : IterState
 five = at (Next 3) false true 0 8 1 9 hash_a 5 1
 
 pub forward_example : Forward (tag "a b a =1") (Next 3) (SkipEqValue 6)
-unfolding StepForward first_of first_to first_from is_space not_space ends_key is_byte part same_bytes bytes_from bytes times_prime hash_from hash_of key_good hash_is key_bad count_good table_good name_at same_key oldest_of earlier_of checked_by checked_of written_by count_by is_at is_quote skip_to skip_of recover_of key_eq key_to key_from key_at quoted closed_of quoted_to quoted_of unquoted_to other_of value_by value_from value_at check_of kept_by place_at bare_by bare_to bare_of valued_by_lem valued_to valued_of read_key read_at step_from step_of place_good keys_of state_good no_keys bad_reading leaves next_of
+unfolding StepForward first_of first_to first_from is_space not_space ends_key is_byte part same_bytes bytes_from bytes times_prime hash_from hash_of key_good hash_is key_bad count_good table_good name_at same_key oldest_of earlier_of checked_by checked_of written_by count_by is_at is_quote skip_to skip_of recover_of key_eq key_to key_from key_at quoted closed_of quoted_to quoted_of unquoted_to other_of value_by value_from value_at check_of kept_by place_at bare_by bare_to bare_of valued_by valued_to valued_of read_key read_at step_from step_of place_good keys_of state_good no_keys bad_reading leaves next_of
 forward_example =
     step_forward (tag "a b a =1") five
     (λ (e : Duplicated 4 0 ≡ End). let z : ◌≡◌ {A = ℕ} 0 1 = cc in omega arith)

@@ -28,10 +28,10 @@ use Rattle.tag_step.specs.declared.Answer.TheVariants.{Empty}
 use Rattle.tag_step.specs.declared.Found.{Found}
 use Rattle.tag_step.specs.declared.IterState.{IterState}
 use Rattle.tag_step.specs.Read.{is_at, recover_of, key_eq, key_to, key_from, key_at, quoted, closed_of, value_at}
-use Rattle.tag_step.specs.Next.{Keys, Reading, reading, check_of, kept_by, place_at, bare_by, bare_to, valued_by_lem, valued_to, read_at, step_from, step_of, keys_of, state_good, no_keys, bad_reading, leaves, next_of}
+use Rattle.tag_step.specs.Next.{Keys, Reading, reading, check_of, kept_by, place_at, bare_by, bare_to, valued_by, valued_to, read_at, step_from, step_of, keys_of, state_good, no_keys, bad_reading, leaves, next_of}
 use Rattle.tag_step.proofs.Whole.{starts_in}
 use Rattle.tag_step.proofs.Ways.{value_ways, step_ways}
-use Rattle.law_steps.specs.Steps.{ValuedKey, valued, moved_with, only_space, nowhere, end_left, skips_from, goes_on_lem, RowLeft, LeavesExact}
+use Rattle.law_steps.specs.Steps.{ValuedKey, valued, moved_with, only_space, nowhere, end_left, skips_from, goes_on, RowLeft, LeavesExact}
 
 -- Where no key is read only whitespace follows.
 
@@ -87,7 +87,7 @@ module _ (s : List ℕ) (st : IterState) where
     bare_leaves : (key : Span) (at : ℕ) (c : Checked) → key_at s o ≡ Bare key at → st.html ≡ true → c ≡ check_of s checks (keys_of st) key → Leaves (bare_to s checks (keys_of st) key at c)
     unfolding bare_to bare_by RowLeft place_at leaves kept_by written_by count_by keys_of
     bare_leaves key at (Fresh n) e on v = (at, record { from = o; goes = goes; reads = e; html = on }, fresh (Empty key) (place_at s at) key n v)
-    bare_leaves key at (Same p) e on v = goes_on_lem key at (record { from = o; goes = goes; reads = e; html = on }) refl refl
+    bare_leaves key at (Same p) e on v = goes_on key at (record { from = o; goes = goes; reads = e; html = on }) refl refl
     bare_leaves key at Full e on v = refl
 
     -- a key with `=`
@@ -117,7 +117,7 @@ module _ (s : List ℕ) (st : IterState) where
           (λ l q m. record { key = key; eq = eq; due = it; leaves = fresh _ _ key n v })
 
       valued_leaves : (c : Checked) → c ≡ check_of s checks (keys_of st) key → Leaves (valued_to s st.html checks (keys_of st) key eq c)
-      unfolding valued_to valued_by_lem RowLeft leaves kept_by written_by count_by keys_of
+      unfolding valued_to valued_by RowLeft leaves kept_by written_by count_by keys_of
       valued_leaves (Fresh n) v = value_leaves n v
       valued_leaves (Same p) v = skips_from key eq it refl refl
       valued_leaves Full v = refl

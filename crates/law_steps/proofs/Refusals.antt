@@ -29,7 +29,7 @@ use Rattle.tag_step.specs.declared.Found.{Found}
 use Rattle.tag_step.specs.declared.IterState.{IterState}
 use Rattle.tag_step.specs.declared.Step.{Step}
 use Rattle.tag_step.specs.Read.{is_at, recover_of, quoted, closed_of, value_at}
-use Rattle.tag_step.specs.Next.{Reading, check_of, bare_by, bare_to, bare_of, valued_by_lem, valued_to, valued_of, step_from, step_of, place_good, keys_of, state_good, bad_reading, leaves, next_of}
+use Rattle.tag_step.specs.Next.{Reading, check_of, bare_by, bare_to, bare_of, valued_by, valued_to, valued_of, step_from, step_of, place_good, keys_of, state_good, bad_reading, leaves, next_of}
 use Rattle.tag_step.proofs.Whole.{starts_in, step_bare, step_valued, next_bad, next_steps}
 use Rattle.tag_step.proofs.Ways.{value_ways, step_ways}
 use Rattle.law_steps.specs.Steps.{FullTables, Broken, empty_key, outside_key, wrong_hash, many_keys, outside_skip, outside_skip_eq, no_eq, SevenExactly, Due, valued, bare, NoRoom, SixExactly}
@@ -188,8 +188,8 @@ module _ (s : List ℕ) (st : IterState) where
   bare_may key at (Same p) d v = tt
   bare_may key at Full d v = record { key = key; due = d; full = full_means key v; start = refl }
 
-  valued_may : (key : Span) (eq : ℕ) (c : Checked) → Due s st key → c ≡ check_of s checks (keys_of st) key → May (valued_by_lem s st.html key eq c).answer
-  unfolding May valued_by_lem
+  valued_may : (key : Span) (eq : ℕ) (c : Checked) → Due s st key → c ≡ check_of s checks (keys_of st) key → May (valued_by s st.html key eq c).answer
+  unfolding May valued_by
   valued_may key eq (Fresh n) d v = value_may key eq
   valued_may key eq (Same p) d v = tt
   valued_may key eq Full d v = record { key = key; due = d; full = full_means key v; start = refl }
@@ -261,7 +261,7 @@ module _ (s : List ℕ) (st : IterState) (this : ℕ) (full : FullTables st) whe
       (earlier_none s st.starts st.ends st.count n.key.start n.key.end n.new) (omega (arith, n.full)))
 
   due_refused : (key : Span) → Due s st key → Full ≡ check_of s st.check_duplicates (keys_of st) key → (step_of s st.html st.check_duplicates (keys_of st) st.place).answer ≡ KeyTableFull key.start
-  unfolding valued_of valued_to valued_by_lem bare_of bare_to bare_by
+  unfolding valued_of valued_to valued_by bare_of bare_to bare_by
   due_refused key (valued eq d) f =
       ap (λ (x : Reading). x.answer) (sym (step_valued s st.html st.check_duplicates (keys_of st) st.place d.from d.goes key eq d.reads)) ∙ rw (sym f)
   due_refused key (bare at d) f =

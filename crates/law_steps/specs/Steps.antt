@@ -160,7 +160,7 @@ pub record RecordsIts (s : List ℕ) (st left : IterState) (place : Place) : Typ
 -- 5: "skip from the `=`; for a bare HTML key the next place, or done. Not recorded again"
 pub data RepeatLeaves (s : List ℕ) (st left : IterState) (this : ℕ) : Type 0 where
   skips_from : (key : Span) (eq : ℕ) → ValuedKey s st key eq → key.start ≡ this → left ≡ moved_to (SkipEqValue eq) st → RepeatLeaves s st left this
-  goes_on_lem : (key : Span) (at : ℕ) → BareKey s st key at → key.start ≡ this → left ≡ moved_to (at_or_done s at) st → RepeatLeaves s st left this
+  goes_on : (key : Span) (at : ℕ) → BareKey s st key at → key.start ≡ this → left ≡ moved_to (at_or_done s at) st → RepeatLeaves s st left this
 
 -- The column "Leaves", a row for each answer; the attributes, of which that table does not speak, as "Reading a tag" has
 -- it: reading goes on directly after the closing quote, where an unquoted value ends, and after a bare key as 1 leaves it.

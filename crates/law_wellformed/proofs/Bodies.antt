@@ -23,7 +23,7 @@ use Rattle.tag_step.specs.declared.Found.{Found}
 use Rattle.tag_step.specs.declared.IterState.{IterState}
 use Rattle.tag_step.specs.declared.Span.{Span}
 use Rattle.tag_step.specs.Read.{span, found}
-use Rattle.tag_step.specs.Next.{Keys, reading, check_of, kept_by, valued_by_lem, valued_to, valued_of, read_key, read_at, step_from, step_of, place_good, keys_of, state_good, no_keys, leaves, next_of, opened}
+use Rattle.tag_step.specs.Next.{Keys, reading, check_of, kept_by, valued_by, valued_to, valued_of, read_key, read_at, step_from, step_of, place_good, keys_of, state_good, no_keys, leaves, next_of, opened}
 use Rattle.tag_step.specs.Run.{is_end, cons_unless, run_of, answers_of}
 use Rattle.tag_step.proofs.Paths.{next_from, key_none}
 use Rattle.law_wellformed.specs.Grammar.{each, Quote, double, single, Attribute, attribute_then, Body, attributes_then, body_text, Quoted, AllQuoted, QuotedBody, Absent, Distinct}
@@ -89,11 +89,11 @@ module _ (s : List ℕ) (html checks : Bool) where
     kept = kept_by s checks keys key (check_of s checks keys key)
 
     reads_one : read_at s html checks keys o ≡ reading (found (attribute_of o a) (Next (next o a))) kept
-    unfolding read_at read_key valued_of valued_to valued_by_lem attribute_of
+    unfolding read_at read_key valued_of valued_to valued_by attribute_of
     reads_one =
         let n = check_new.0 in
         let c : check_of s checks keys key ≡ Fresh n = check_new.1 in
-        let v : valued_by_lem s html key (name_end o a + length a.before_eq) (check_of s checks keys key) ≡ found (attribute_of o a) (Next (next o a)) = rw c (value_read s o a rest here fine html key) in
+        let v : valued_by s html key (name_end o a + length a.before_eq) (check_of s checks keys key) ≡ found (attribute_of o a) (Next (next o a)) = rw c (value_read s o a rest here fine html key) in
         rw (key_read s o a rest here fine) (ap (λ (x : Found). reading x kept) v)
 
     starts_on : checks ≡ true → kept.starts ≡ set keys.starts keys.count (name_start o a)

@@ -16,7 +16,7 @@ use Rattle.tag_step.specs.declared.Start.TheVariants.{From}
 use Rattle.tag_step.specs.declared.Answer.TheVariants.{DoubleQ, SingleQ, Duplicated, BadState}
 use Rattle.tag_step.specs.declared.IterState.{IterState}
 use Rattle.tag_step.specs.Read.{span, is_at, is_quote, skip_to, skip_of, recover_of, key_eq, key_to, key_from, key_at, quoted, closed_of, quoted_to, quoted_of, unquoted_to, other_of, value_by, value_from, value_at}
-use Rattle.tag_step.specs.Next.{check_of, kept_by, place_at, bare_by, bare_to, bare_of, valued_by_lem, valued_to, valued_of, read_key, read_at, step_from, step_of, place_good, keys_of, lent_state, state_good, no_keys, bad_reading, leaves, next_of, opened}
+use Rattle.tag_step.specs.Next.{check_of, kept_by, place_at, bare_by, bare_to, bare_of, valued_by, valued_to, valued_of, read_key, read_at, step_from, step_of, place_good, keys_of, lent_state, state_good, no_keys, bad_reading, leaves, next_of, opened}
 use Rattle.tag_step.specs.Run.{answers_of}
 use Rattle.tag_step.proofs.Good.{opened_sized, opened_good}
 use Rattle.tag_parts.specs.Parts.{key_part, value_part}
@@ -172,7 +172,7 @@ again = (next_of (bytes "a='1' a=\"2 3\" b='4'") (opened 0 false true)).state
 pub resume_example :
     let s = bytes "a='1' a=\"2 3\" b='4'" in
     ((next_of s again).answer ≡ Duplicated 6 0) × (recover_of s (next_of s again).state.place ≡ From 10)
-unfolding first_of first_to first_from is_space not_space ends_key is_byte part same_bytes bytes_from bytes times_prime hash_from hash_of key_good hash_is key_bad count_good table_good name_at same_key oldest_of earlier_of checked_by checked_of written_by count_by is_at is_quote skip_to skip_of recover_of key_eq key_to key_from key_at quoted closed_of quoted_to quoted_of unquoted_to other_of value_by value_from value_at check_of kept_by place_at bare_by bare_to bare_of valued_by_lem valued_to valued_of read_key read_at step_from step_of place_good keys_of state_good no_keys bad_reading leaves next_of opened from_or_ended from_whitespace after_key after_duplicate resumes_at
+unfolding first_of first_to first_from is_space not_space ends_key is_byte part same_bytes bytes_from bytes times_prime hash_from hash_of key_good hash_is key_bad count_good table_good name_at same_key oldest_of earlier_of checked_by checked_of written_by count_by is_at is_quote skip_to skip_of recover_of key_eq key_to key_from key_at quoted closed_of quoted_to quoted_of unquoted_to other_of value_by value_from value_at check_of kept_by place_at bare_by bare_to bare_of valued_by valued_to valued_of read_key read_at step_from step_of place_good keys_of state_good no_keys bad_reading leaves next_of opened from_or_ended from_whitespace after_key after_duplicate resumes_at
 resume_example = (refl, resume_exact (bytes "a='1' a=\"2 3\" b='4'") again)
 
 -- From an opened iterator there are at most as many answers as bytes; a skip place outside the tag is answered once, by 7.

@@ -24,7 +24,7 @@ use Rattle.tag_step.specs.declared.Answer.{Answer}
 use Rattle.tag_step.specs.declared.Found.{Found}
 use Rattle.tag_step.specs.declared.IterState.{IterState}
 use Rattle.tag_step.specs.Read.{is_at, skip_to, skip_of, recover_of, key_eq, key_to, key_from, key_at, quoted, closed_of, value_at}
-use Rattle.tag_step.specs.Next.{Keys, Reading, place_at, bare_by, bare_to, valued_by_lem, valued_to, read_at, step_from, step_of, keys_of, state_good, bad_reading, leaves, next_of}
+use Rattle.tag_step.specs.Next.{Keys, Reading, place_at, bare_by, bare_to, valued_by, valued_to, read_at, step_from, step_of, keys_of, state_good, bad_reading, leaves, next_of}
 use Rattle.tag_step.proofs.Paths.{next_from}
 use Rattle.tag_step.proofs.Whole.{starts_in}
 use Rattle.tag_step.proofs.Ways.{value_ways, step_ways}
@@ -97,8 +97,8 @@ module _ (s : List ℕ) (html : Bool) (key : Span) (x : ℕ) where
   bare f (Same p) = place_from_lem s x ∙ sym (after_duplicate_lem s key x false f)
   bare f Full = refl
 
-  valued : Follows s key x true → (c : Checked) → Resumes s (valued_by_lem s html key x c).answer (valued_by_lem s html key x c).place
-  unfolding valued_by_lem resumes_at recover_of skip_of skip_to from_whitespace from_or_ended
+  valued : Follows s key x true → (c : Checked) → Resumes s (valued_by s html key x c).answer (valued_by s html key x c).place
+  unfolding valued_by resumes_at recover_of skip_of skip_to from_whitespace from_or_ended
   valued f (Fresh n) = value s html key x
   valued f (Same p) = sym (after_duplicate_lem s key x true f)
   valued f Full = refl

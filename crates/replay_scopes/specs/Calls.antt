@@ -41,11 +41,11 @@ unfoldable pub lookup_said : Resolved → Said
 lookup_said found = said_numbers (get_or (resolved_numbers found) 0 0) (get_or (resolved_numbers found) 1 0) (get_or (resolved_numbers found) 2 0)
 
 -- the next place of a listing, which is recorded where a binding is shown
-unfoldable pub place_after_lem : Listed → (place : ℕ) → ℕ
-place_after_lem (Shown.Binding a m e) place = place
-place_after_lem Shown.End place = 0
-place_after_lem Shown.BadResolver place = 0
-place_after_lem Shown.WrongLength place = 0
+unfoldable pub place_after : Listed → (place : ℕ) → ℕ
+place_after (Shown.Binding a m e) place = place
+place_after Shown.End place = 0
+place_after Shown.BadResolver place = 0
+place_after Shown.WrongLength place = 0
 
 -- A listing: 0 for its end, 1 for a default, 2 for a named one, with the bounds of prefix and value and the next place;
 -- 20.
@@ -57,7 +57,7 @@ listing_said a place =
       second = get_or (listed_numbers a) 2 0;
       third = get_or (listed_numbers a) 3 0;
       fourth = get_or (listed_numbers a) 4 0;
-      fifth = place_after_lem a place;
+      fifth = place_after a place;
     }
 
 -- how many bindings an answer shows

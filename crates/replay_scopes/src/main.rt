@@ -11,7 +11,7 @@
 #![tactic(auto)]
 
 ghost use Rattle.std.specs.Prelude.{◌≡◌, ◌+◌, ◌≤◌, length};
-ghost use Rattle.replay_scopes.specs.Calls.{said_numbers, change_said, lookup_said, place_after_lem, listing_said, shown_in, changed_by, reset_to, called_lookup, called_listing, recorded_call_of, called_of};
+ghost use Rattle.replay_scopes.specs.Calls.{said_numbers, change_said, lookup_said, place_after, listing_said, shown_in, changed_by, reset_to, called_lookup, called_listing, recorded_call_of, called_of};
 ghost use Rattle.replay_scopes.specs.Replay.{same_said, same_left, lengths_of, held_to, turn_of, call_record_of, calls_replayed};
 
 use name::PrefixDeclaration;
@@ -129,7 +129,7 @@ fn lookup_said(found: Resolved) -> Said
 
 // The place to go on from, which is recorded where a binding is shown.
 fn place_after(answer: Listed, place: usize) -> usize
-    ensures { result ≡ place_after_lem answer place }
+    ensures { result ≡ place_after answer place }
 {
     match answer {
         Listed::Binding(_, _, _) => place,

@@ -10,7 +10,7 @@ use Rattle.tag_keys.specs.Hash.{times_prime, hash_from, hash_of}
 use Rattle.tag_keys.specs.Keys.{capacity, key_good, hash_is, key_bad, count_good, table_good, name_at, same_key, oldest_of, earlier_of, checked_by, checked_of, written_by, count_by}
 use Rattle.tag_step.specs.declared.IterState.{IterState}
 use Rattle.tag_step.specs.Read.{is_at, is_quote, skip_to, skip_of, recover_of, key_eq, key_to, key_from, key_at, quoted, closed_of, quoted_to, quoted_of, unquoted_to, other_of, value_by, value_from, value_at}
-use Rattle.tag_step.specs.Next.{check_of, kept_by, place_at, bare_by, bare_to, bare_of, valued_by_lem, valued_to, valued_of, read_key, read_at, step_from, step_of, place_good, keys_of, state_good, no_keys, bad_reading, leaves, next_of, opened}
+use Rattle.tag_step.specs.Next.{check_of, kept_by, place_at, bare_by, bare_to, bare_of, valued_by, valued_to, valued_of, read_key, read_at, step_from, step_of, place_good, keys_of, state_good, no_keys, bad_reading, leaves, next_of, opened}
 use Rattle.tag_step.specs.Run.{is_end, cons_unless, run_of, answers_of}
 use Rattle.tag_step.proofs.Good.{Sized, opened_good}
 use Rattle.tag_parts.specs.Parts.{key_part, value_part, truth_of}
@@ -49,7 +49,7 @@ abbrev tag : List ℕ
 tag = bytes "nil='1' xsi:nil=1 xsi:nil=\"true\""
 
 pub nil_instance : ((has_nil_of tag (start false) typed).answer ≡ Yes) × ((has_nil_of tag (start true) typed).answer ≡ No)
-unfolding first_of first_to first_from is_space not_space ends_key is_byte part inside same_bytes bytes_from bytes times_prime hash_from hash_of key_good hash_is key_bad count_good table_good name_at same_key oldest_of earlier_of checked_by checked_of written_by count_by is_at is_quote skip_to skip_of recover_of key_eq key_to key_from key_at quoted closed_of quoted_to quoted_of unquoted_to other_of value_by value_from value_at check_of kept_by place_at bare_by bare_to bare_of valued_by_lem valued_to valued_of read_key read_at step_from step_of place_good keys_of state_good no_keys bad_reading leaves next_of opened is_end cons_unless run_of answers_of key_part value_part truth_of colon_at has_colon prefix_of local_at local_of last_below prefix_in built_in has_prefix is_default value_or explicit_of default_of among_of uri_part is_yes instance_uri is_nil says_nil any_nil
+unfolding first_of first_to first_from is_space not_space ends_key is_byte part inside same_bytes bytes_from bytes times_prime hash_from hash_of key_good hash_is key_bad count_good table_good name_at same_key oldest_of earlier_of checked_by checked_of written_by count_by is_at is_quote skip_to skip_of recover_of key_eq key_to key_from key_at quoted closed_of quoted_to quoted_of unquoted_to other_of value_by value_from value_at check_of kept_by place_at bare_by bare_to bare_of valued_by valued_to valued_of read_key read_at step_from step_of place_good keys_of state_good no_keys bad_reading leaves next_of opened is_end cons_unless run_of answers_of key_part value_part truth_of colon_at has_colon prefix_of local_at local_of last_below prefix_in built_in has_prefix is_default value_or explicit_of default_of among_of uri_part is_yes instance_uri is_nil says_nil any_nil
 nil_instance = (
   nil_among_answers tag (start false) typed typed_valid (sized false) (opened_good tag 0 false false),
   nil_among_answers tag (start true) typed typed_valid (sized true) (opened_good tag 0 false true),

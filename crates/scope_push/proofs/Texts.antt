@@ -29,7 +29,7 @@ use Rattle.tag_step.specs.declared.Answer.{Answer}
 use Rattle.tag_step.specs.declared.Answer.TheVariants.{End, DoubleQ, SingleQ, Unquoted, Empty, ExpectedEq, ExpectedValue, UnquotedValue, ExpectedQuote, Duplicated, KeyTableFull, BadState}
 use Rattle.tag_step.specs.declared.Found.{Found}
 use Rattle.tag_step.specs.Read.{span, recover_of, quoted, closed_of, value_at}
-use Rattle.tag_step.specs.Next.{Keys, Reading, bare_by, bare_to, valued_by_lem, valued_to, read_at, no_keys}
+use Rattle.tag_step.specs.Next.{Keys, Reading, bare_by, bare_to, valued_by, valued_to, read_at, no_keys}
 use Rattle.tag_step.specs.Run.{is_end, cons_unless, run_from, answers_from}
 use Rattle.tag_step.proofs.Whole.{StartIn, recover_in}
 use Rattle.tag_step.proofs.Ways.{value_ways, step_ways}
@@ -84,8 +84,8 @@ value_in_lem s html key eq k =
     (λ e h q m f. tt)
     (λ h q m. tt)
 
-valued_in_lem : (s : List ℕ) (html : Bool) (key : Span) (eq : ℕ) (c : Checked) → SpanIn s key → In s (valued_by_lem s html key eq c).answer
-unfolding valued_by_lem
+valued_in_lem : (s : List ℕ) (html : Bool) (key : Span) (eq : ℕ) (c : Checked) → SpanIn s key → In s (valued_by s html key eq c).answer
+unfolding valued_by
 valued_in_lem s html key eq (Fresh n) k = value_in_lem s html key eq k
 valued_in_lem s html key eq (Same earlier) k = tt
 valued_in_lem s html key eq Full k = tt

@@ -20,7 +20,7 @@ use Rattle.tag_step.specs.declared.Start.{Start}
 use Rattle.tag_step.specs.declared.Start.TheVariants.{From, Ended}
 use Rattle.tag_step.specs.declared.Found.{Found}
 use Rattle.tag_step.specs.Read.{is_at, skip_to, skip_of, recover_of, closed_of, value_at}
-use Rattle.tag_step.specs.Next.{Keys, Reading, place_at, bare_by, bare_to, valued_by_lem, valued_to, read_at, place_good}
+use Rattle.tag_step.specs.Next.{Keys, Reading, place_at, bare_by, bare_to, valued_by, valued_to, read_at, place_good}
 use Rattle.tag_step.proofs.Whole.{at_in}
 use Rattle.tag_step.proofs.Ways.{value_ways, step_ways}
 
@@ -55,8 +55,8 @@ module _ (s : List ℕ) (o : ℕ) where
       (λ e i q m b. let w = first is_space s v (omega arith) in (omega (arith, f.ahead, w.ahead), omega (arith, w.inside)))
       (λ i q m. (omega (arith, f.ahead), i))
 
-  valued_after : (html : Bool) (key : Span) (eq : ℕ) (c : Checked) → o < eq → is_at s 61 eq ≡ true → After s o (valued_by_lem s html key eq c).place
-  unfolding valued_by_lem After
+  valued_after : (html : Bool) (key : Span) (eq : ℕ) (c : Checked) → o < eq → is_at s 61 eq ≡ true → After s o (valued_by s html key eq c).place
+  unfolding valued_by After
   valued_after html key eq (Fresh n) h a = value_after html key eq h (at_in s 61 eq a)
   valued_after html key eq (Same p) h a = (h, a)
   valued_after html key eq Full h a = tt

@@ -21,7 +21,7 @@ use Rattle.tag_step.specs.declared.Stepped.{Stepped}
 use Rattle.tag_step.specs.declared.Stepped.TheVariants.{Made, LendMore}
 use Rattle.tag_step.specs.declared.Step.{Step}
 use Rattle.tag_step.specs.Read.{found, recover_of, key_at}
-use Rattle.tag_step.specs.Next.{Keys, Reading, reading, keys_lent, advanced, check_of, kept_by, bare_by, bare_to, bare_of, valued_by_lem, valued_to, valued_of, read_key, read_at, step_from, step_of, place_good, keys_of, state_good, no_keys, leaves, standing, unchecked_of, opened}
+use Rattle.tag_step.specs.Next.{Keys, Reading, reading, keys_lent, advanced, check_of, kept_by, bare_by, bare_to, bare_of, valued_by, valued_to, valued_of, read_key, read_at, step_from, step_of, place_good, keys_of, state_good, no_keys, leaves, standing, unchecked_of, opened}
 use Rattle.tag_step.specs.Lent.{taken, step_in}
 use Rattle.tag_step.specs.Run.{is_end, cons_unless, run_lent, run_from, answers_from, answers_of}
 use Rattle.tag_step.proofs.Whole.{next_steps, recover_in}
@@ -53,7 +53,7 @@ module _ (s : List ℕ) (html : Bool) (keys other : Keys) where
   off_bare key at false = refl
 
   off_key : (k : KeyRead) → read_key s html false keys k ≡ swapped (read_key s html false other k) keys
-  unfolding read_key valued_of valued_to valued_by_lem kept_by check_of checked_of written_by count_by
+  unfolding read_key valued_of valued_to valued_by kept_by check_of checked_of written_by count_by
   off_key NoKey = refl
   off_key (Bare key at) = off_bare key at html
   off_key (Valued key eq) = refl

@@ -30,7 +30,7 @@ use Rattle.tag_step.specs.declared.Found.{Found}
 use Rattle.tag_step.specs.declared.Advance.{Advance}
 use Rattle.tag_step.specs.declared.IterState.{IterState}
 use Rattle.tag_step.specs.Read.{found, is_at, skip_to, skip_of, recover_of, key_eq, key_to, key_from, key_at, value_at}
-use Rattle.tag_step.specs.Next.{Keys, Reading, reading, keys_lent, advanced, check_of, kept_by, place_at, bare_by, bare_to, bare_of, valued_by_lem, valued_to, valued_of, read_key, read_at, step_from, step_of, place_good, good_of, keys_of, state_good, bad_reading, leaves, next_of}
+use Rattle.tag_step.specs.Next.{Keys, Reading, reading, keys_lent, advanced, check_of, kept_by, place_at, bare_by, bare_to, bare_of, valued_by, valued_to, valued_of, read_key, read_at, step_from, step_of, place_good, good_of, keys_of, state_good, bad_reading, leaves, next_of}
 
 abbrev outcome : Answer → Place → ℕ → Advance
 outcome a p n = record { answer = a; place = p; count = n }
@@ -60,15 +60,15 @@ module _ (s : List ℕ) (html checks : Bool) (starts ends hashes : List ℕ) (co
     bare_full e = rw (on, sym verdict, in-starts, in-ends, in-hashes, e)
 
   pub valued_fresh : (n : ℕ) → v ≡ Fresh n → (x : Found) → x ≡ value_at s html key at → advanced (outcome x.answer x.place n) starts' ends' hashes' ≡ valued_of s html checks (keys_lent starts ends hashes count) key at
-  unfolding valued_of valued_to valued_by_lem kept_by check_of count_by
+  unfolding valued_of valued_to valued_by kept_by check_of count_by
   valued_fresh n e x f = rw (sym verdict, in-starts, in-ends, in-hashes, e, f)
 
   pub valued_same : (q : ℕ) → v ≡ Same q → advanced (outcome (Duplicated key.start q) (SkipEqValue at) count) starts' ends' hashes' ≡ valued_of s html checks (keys_lent starts ends hashes count) key at
-  unfolding valued_of valued_to valued_by_lem kept_by check_of count_by
+  unfolding valued_of valued_to valued_by kept_by check_of count_by
   valued_same q e = rw (sym verdict, in-starts, in-ends, in-hashes, e)
 
   pub valued_full : v ≡ Full → advanced (outcome (KeyTableFull key.start) Done count) starts' ends' hashes' ≡ valued_of s html checks (keys_lent starts ends hashes count) key at
-  unfolding valued_of valued_to valued_by_lem kept_by check_of count_by
+  unfolding valued_of valued_to valued_by kept_by check_of count_by
   valued_full e = rw (sym verdict, in-starts, in-ends, in-hashes, e)
 
 -- the step
@@ -158,9 +158,9 @@ module _ (s : List ℕ) (o : ℕ) (h : o ≤ length s) (key : Span) (x : ℕ) wh
   unfolding KeyIn
   bare_by_lem e = subst (KeyIn s o) e (key_in s o h)
 
-  pub valued_by : key_at s o ≡ Valued key x → KeyBy (length s) o key x × (is_at s 61 x ≡ true)
+  pub valued_by_lem : key_at s o ≡ Valued key x → KeyBy (length s) o key x × (is_at s 61 x ≡ true)
   unfolding KeyIn
-  valued_by e = subst (KeyIn s o) e (key_in s o h)
+  valued_by_lem e = subst (KeyIn s o) e (key_in s o h)
 
 -- Where reading goes on is in the tag or at its end.
 

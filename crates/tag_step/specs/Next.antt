@@ -85,13 +85,13 @@ bare_of s html checks keys key at =
 -- A key with `=`.
 
 -- The value of a new key is read. After 5 reading skips from the `=`. 6 leaves done.
-unfoldable pub valued_by_lem : List ℕ → Bool → Span → ℕ → Checked → Found
-valued_by_lem s html key eq (Fresh n) = value_at s html key eq
-valued_by_lem s html key eq (Same earlier) = found (Duplicated key.start earlier) (SkipEqValue eq)
-valued_by_lem s html key eq Full = found (KeyTableFull key.start) Done
+unfoldable pub valued_by : List ℕ → Bool → Span → ℕ → Checked → Found
+valued_by s html key eq (Fresh n) = value_at s html key eq
+valued_by s html key eq (Same earlier) = found (Duplicated key.start earlier) (SkipEqValue eq)
+valued_by s html key eq Full = found (KeyTableFull key.start) Done
 
 unfoldable pub valued_to : List ℕ → Bool → Bool → Keys → Span → ℕ → Checked → Reading
-valued_to s html checks keys key eq c = reading (valued_by_lem s html key eq c) (kept_by s checks keys key c)
+valued_to s html checks keys key eq c = reading (valued_by s html key eq c) (kept_by s checks keys key c)
 
 -- With `=` found, the key is checked and recorded before its value is looked at.
 unfoldable pub valued_of : List ℕ → Bool → Bool → Keys → Span → ℕ → Reading

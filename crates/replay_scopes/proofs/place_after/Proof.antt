@@ -1,5 +1,5 @@
 -- `replay_scopes::place_after` meets its contract: by the cases of the answer.
-use Rattle.replay_scopes.specs.Calls.{place_after_lem}
+use Rattle.replay_scopes.specs.Calls.{place_after}
 use borrow.Author.Rules.{rules}
 use Rattle.replay_scopes.proofs.place_after.Statement.{statement}
 use Rattle.replay_scopes.proofs.place_after.Tie as tie
@@ -17,19 +17,19 @@ enum_told_4 : tie.Need-enum-told-4
 enum_told_4 c = search rules
 
 returns : tie.Need-returns
-unfolding place_after_lem
+unfolding place_after
 returns c = rw c.enum_told.given.1
 
 returns_2 : tie.Need-returns-2
-unfolding place_after_lem
+unfolding place_after
 returns_2 c = rw c.enum-told2.given.1
 
 returns_3 : tie.Need-returns-3
-unfolding place_after_lem
+unfolding place_after
 returns_3 c = rw c.enum-told3.given.1
 
 returns_4 : tie.Need-returns-4
-unfolding place_after_lem
+unfolding place_after
 returns_4 c = rw c.enum-told4.given.1
 
 pub place_after_spec : {M : Type 1} → statement M

@@ -3,7 +3,7 @@ use mathlib.Core.Path.{refl, sym, ap, ◌∙◌}
 use native.Mathlib.Omega.{arith}
 use Rattle.tag_keys.proofs.Sieve.{sieve_stays}
 use Rattle.tag_step.specs.Lent.{taken_on}
-use Rattle.tag_step.proofs.Whole.{step_ended, step_none, step_bare, step_valued, starts_in, bare_by_lem, valued_by, at_in}
+use Rattle.tag_step.proofs.Whole.{step_ended, step_none, step_bare, step_valued, starts_in, bare_by_lem, valued_by_lem, at_in}
 use Rattle.tag_step.proofs.Taken.{took_same}
 use Rattle.tag_step.proofs.step_in.Goals as goal
 
@@ -19,7 +19,7 @@ key_only-requires c =
 pub key_valued-requires : goal.key_valued-requires
 key_valued-requires c =
     let from = sym c.in-From.ensures in
-    let k = valued_by _ _ (starts_in _ _ _ from) _ _ (sym c.in-Valued.ensures) in
+    let k = valued_by_lem _ _ (starts_in _ _ _ from) _ _ (sym c.in-Valued.ensures) in
     record { keys_in = c.requires.keys_in; start_lt_end = (omega arith, omega arith); eq_in_bounds = at_in _ _ _ k.1; sieve_of = c.requires.sieve_of }
 
 pub returns-in-NoKey : goal.returns-in-NoKey
