@@ -38,6 +38,7 @@ use Rattle.scan.specs.contracts.content_from as scan·content-from
 use Rattle.scan.specs.contracts.key_end_from as scan·key-end-from
 use Rattle.scan.specs.contracts.byte_from as scan·byte-from
 use Rattle.scan.specs.contracts.byte_near as scan·byte-near
+use Rattle.scan.specs.contracts.twice_near as scan·twice-near
 use Rattle.scan.specs.contracts.inside as scan·inside
 use Rattle.scan.specs.contracts.same as scan·same
 use Rattle.scan.specs.contracts.same_start as scan·same-start
@@ -48,6 +49,8 @@ use Rattle.name.specs.contracts.colon_at as name·colon-at
 use Rattle.name.specs.contracts.index as name·index
 use Rattle.name.specs.contracts.prefix as name·prefix
 use Rattle.name.specs.contracts.local_name as name·local-name
+use Rattle.name.specs.contracts.second_at as name·second-at
+use Rattle.name.specs.contracts.second_colon as name·second-colon
 use Rattle.name.specs.contracts.decompose as name·decompose
 use Rattle.name.specs.contracts.is_xml as name·is-xml
 use Rattle.name.specs.contracts.is_xmlns as name·is-xmlns
@@ -148,6 +151,9 @@ module _ {M : Type 1} {𝓤 : Ura M} (𝓛 : Logic 𝓤) (mem : Memory → SProp
   pub scan_byte_near : Settled 𝓤 scan·byte-near.ended (scan·byte-near.clauses 𝓛 mem run)
   scan_byte_near κs a g y z = alone 𝓤 _ y z refl
 
+  pub scan_twice_near : Settled 𝓤 scan·twice-near.ended (scan·twice-near.clauses 𝓛 mem run)
+  scan_twice_near κs a g y z = alone 𝓤 _ y z refl
+
   pub scan_inside : SettledAs 𝓤 scan·inside.ended (List ℕ) (λ κs r. r.now) (scan·inside.clauses 𝓛 mem run)
   scan_inside κs a g y z = read_off 𝓤 (λ (bytes : List ℕ). (bytes, y.1))
 
@@ -177,6 +183,12 @@ module _ {M : Type 1} {𝓤 : Ura M} (𝓛 : Logic 𝓤) (mem : Memory → SProp
 
   pub name_local_name : SettledAs 𝓤 name·local-name.ended (List ℕ) (λ κs r. r.now) (name·local-name.clauses 𝓛 mem run)
   name_local_name κs a g y z = read_off 𝓤 (λ (bytes : List ℕ). (bytes, y.1))
+
+  pub name_second_at : Settled 𝓤 name·second-at.ended (name·second-at.clauses 𝓛 mem run)
+  name_second_at κs a g y z = alone 𝓤 _ y z refl
+
+  pub name_second_colon : Settled 𝓤 name·second-colon.ended (name·second-colon.clauses 𝓛 mem run)
+  name_second_colon κs a g y z = alone 𝓤 _ y z refl
 
   pub name_decompose : Settled 𝓤 name·decompose.ended (name·decompose.clauses 𝓛 mem run)
   name_decompose κs a g y z = alone 𝓤 _ y z refl
