@@ -1,6 +1,5 @@
-// What the static library exports of a resolver to ask it, for Rust or C to link. Each function hands what it is lent on to the
-// crate that has the rule, and answers by numbers; none asks anything of its caller. A slice passes as pointer and length, an
-// array of fixed length as its pointer alone.
+// What the static library exports of a resolver to ask it (crates/export_lookups_c), for Rust or C to link. Each function hands what it
+// is lent on to the crate that has the rule, and answers by numbers; none asks anything of its caller.
 #![tactic(auto)]
 
 ghost use Rattle.std.specs.Prelude.{◌≡◌};
@@ -16,8 +15,7 @@ use scope_listing::Listing;
 
 // What a name resolves to: `scope_lookup::resolve_in`. 0 Unbound, 1 Bound with the URI's bounds in the text, 2 Unknown with the
 // prefix's bounds in the name, 20, 99.
-#[unsafe(no_mangle)]
-pub extern "C" fn mz_resolve<'t, 'n>(
+pub fn mz_resolve<'t, 'n>(
     text: &'t [u8],
     records: &'t [usize],
     head: &'t [usize; 4],
@@ -50,8 +48,7 @@ fn list(detail: &mut [usize; 5], shown: Listing) -> usize
 
 // The first binding in effect at or after a place: `scope_listing::bindings_in`. 0 the end, 1 a default, 2 a named one, with the
 // bounds of prefix and value in the text and the place to go on from; 20, 99.
-#[unsafe(no_mangle)]
-pub extern "C" fn mz_binding<'t>(
+pub fn mz_binding<'t>(
     text: &'t [u8],
     records: &'t [usize],
     head: &'t [usize; 4],
@@ -67,8 +64,7 @@ pub extern "C" fn mz_binding<'t>(
 }
 
 // The same of the bindings of one level: `scope_listing::bindings_of_in`.
-#[unsafe(no_mangle)]
-pub extern "C" fn mz_binding_of<'t>(
+pub fn mz_binding_of<'t>(
     text: &'t [u8],
     records: &'t [usize],
     head: &'t [usize; 4],

@@ -1,5 +1,5 @@
-// What the static library exports to look up all the names of a tag in one call, for Rust or C to link. It stands apart from
-// the other calls that ask a resolver, so that the lookup has one caller here and is compiled into the loop over the names.
+// What the static library exports to look up all the names of a tag in one call (crates/export_names_c), for Rust or C to link. It
+// stands apart from the other calls that ask a resolver, so that the lookup has one caller and is compiled into the loop over the names.
 #![tactic(auto)]
 
 ghost use Rattle.std.specs.Prelude.{◌≡◌};
@@ -32,8 +32,7 @@ fn alike<'n>(
 // The names of a tag, all by one test of the resolver. Name k is the tag's bytes from `from[k]` up to `to[k]`, and the first
 // `elements` of them want the default. What `mz_resolve` would answer for it goes to `kinds[k]`, and the bounds to `begins[k]`
 // and `ends[k]`. 0, 20, 99.
-#[unsafe(no_mangle)]
-pub extern "C" fn mz_resolve_all<'t, 'n>(
+pub fn mz_resolve_all<'t, 'n>(
     text: &'t [u8],
     records: &'t [usize],
     head: &'t [usize; 4],

@@ -1,6 +1,6 @@
-// What the static library exports of what stands on both the iterator and the resolver: `has_nil`; and what one value says.
-// Each function hands what it is lent on to the crate that has the rule, and answers by a number; none asks anything of
-// its caller.
+// What the static library exports of what stands on both the iterator and the resolver: `has_nil`; and what one value says
+// (crates/export_nil_c). Each function hands what it is lent on to the crate that has the rule, and answers by a number; none asks
+// anything of its caller.
 #![tactic(auto)]
 
 ghost use Rattle.std.specs.Prelude.{◌≡◌};
@@ -10,8 +10,7 @@ ghost use Rattle.export_nil.specs.Search.{nil_end, has_nil_by};
 use tag_step::Standing;
 
 // What a value says: `tag_parts::as_bool`. 0 a no, 1 a yes, 2 neither.
-#[unsafe(no_mangle)]
-pub extern "C" fn mz_as_bool(value: &[u8]) -> usize
+pub fn mz_as_bool(value: &[u8]) -> usize
     ensures { result ≡ truth_number (truth_of value.now) }
 {
     tag_parts::as_bool(value).number()
@@ -20,8 +19,7 @@ pub extern "C" fn mz_as_bool(value: &[u8]) -> usize
 // Whether an attribute from here on says that the element is nil: `scope_nil::has_nil_in`. The resolver is lent as to
 // `mz_resolve`, the iterator as to `mz_read_batch`, but that its fourth number is left alone; it is left after the attribute
 // that was a yes, or after the end. 0 no, 1 yes, 7, 20, 98, 99.
-#[unsafe(no_mangle)]
-pub extern "C" fn mz_has_nil<'k, 't>(
+pub fn mz_has_nil<'k, 't>(
     text: &'t [u8],
     records: &'t [usize],
     head: &'t [usize; 4],

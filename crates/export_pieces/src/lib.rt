@@ -1,5 +1,5 @@
-// What the static library exports of tags that arrive in pieces, for Rust or C to link. Each function hands its slices on to the
-// crate that has the rule; none asks anything of its caller.
+// What the static library exports of tags that arrive in pieces (crates/export_pieces_c), for Rust or C to link. Each function hands
+// its slices on to the crate that has the rule; none asks anything of its caller.
 //
 // A reader in a caller's memory is its text, the three key tables, and nine numbers: the kind of the place (0 done, 1 next, 2 skip
 // value, 3 skip from `=`), its position, how many keys are recorded, why it stopped, how many bytes are held, whether the tag is
@@ -146,8 +146,7 @@ fn cursor_in(reader: &[usize; 9], html: bool, checks: bool) -> Cursor
 // One piece more: 0; 32 after the finish; 31 where more than 65,536 bytes would be held; 98 where the lent text is too short for it;
 // 99 where that is longer than 65,536. Only at 0 something is written: the piece behind what is held, that number, the phase, and
 // 0 for why it stopped.
-#[unsafe(no_mangle)]
-pub extern "C" fn mz_piece(text: &mut [u8], reader: &mut [usize; 9], piece: &[u8]) -> usize
+pub fn mz_piece(text: &mut [u8], reader: &mut [usize; 9], piece: &[u8]) -> usize
     ensures { piece_end result text.new reader.new ≡ mz_piece_of text.old reader.old piece.now }
 {
     if text.len() > tag_pieces::HOLD {
@@ -167,8 +166,7 @@ pub extern "C" fn mz_piece(text: &mut [u8], reader: &mut [usize; 9], piece: &[u8
 }
 
 // The finish: 0, or 32 after another one.
-#[unsafe(no_mangle)]
-pub extern "C" fn mz_finish(reader: &mut [usize; 9]) -> usize
+pub fn mz_finish(reader: &mut [usize; 9]) -> usize
     ensures { finish_end result reader.new ≡ mz_finish_of reader.old }
 {
     if reader[5] != 0 {
@@ -212,8 +210,7 @@ fn settle(reader: &mut [usize; 9], before: Place, left: Cursor, n: usize, why: W
 // the largest number there is where the text has more bytes than can be held or a table more places than there can be keys. Why it
 // stopped is 0 where `out` is full, 1 where no answer is ready (which is more before the finish, and the end after it), 2 where the
 // tables have no place for the next key. With room for no answer nothing is written.
-#[unsafe(no_mangle)]
-pub extern "C" fn mz_take<'a>(
+pub fn mz_take<'a>(
     text: &[u8],
     starts: &'a mut [usize],
     ends: &'a mut [usize],

@@ -1,6 +1,5 @@
-// What the static library exports of a resolver to change it, for Rust or C to link. Each function hands what it is lent on to
-// the crate that has the rule, and answers by numbers; none asks anything of its caller. A slice passes as pointer and length,
-// an array of fixed length as its pointer alone.
+// What the static library exports of a resolver to change it (crates/export_scopes_c), for Rust or C to link. Each function hands what
+// it is lent on to the crate that has the rule, and answers by numbers; none asks anything of its caller.
 #![tactic(auto)]
 
 ghost use Rattle.std.specs.Prelude.{◌≡◌, []};
@@ -40,8 +39,7 @@ const LAYOUT: [usize; 14] = [
 // iterator's state, 2 of an answer; 3 bytes of text, 4 records, 5 numbers of a record, 6 of a head, 7 of a detail, 8 of a
 // listing's detail; 9 bytes of a number, 10 its alignment; 11 bytes of a hash; 12 numbers of a reader in pieces, 13 bytes that it
 // holds. Any other is 0.
-#[unsafe(no_mangle)]
-pub extern "C" fn mz_layout(what: usize) -> usize
+pub fn mz_layout(what: usize) -> usize
     ensures { result ≡ layout_of what }
 {
     if what < 14 {
@@ -52,8 +50,7 @@ pub extern "C" fn mz_layout(what: usize) -> usize
 
 // Writes the fresh resolver, whatever stood in the lent memory: `scope_table::fresh_in`. `head` is text used, records in use,
 // level and limit; it is not read, and is written where there is room. 0, 98, 99.
-#[unsafe(no_mangle)]
-pub extern "C" fn mz_fresh(text: &mut [u8], records: &mut [usize], head: &mut [usize; 4]) -> usize
+pub fn mz_fresh(text: &mut [u8], records: &mut [usize], head: &mut [usize; 4]) -> usize
     ensures { crossed result text.new records.new head.new []
         ≡ fresh_by text.old records.old head.old }
 {
@@ -73,8 +70,7 @@ pub extern "C" fn mz_fresh(text: &mut [u8], records: &mut [usize], head: &mut [u
 }
 
 // A tag opens a scope: `scope_push::push_in`. 0, or the refusal's number with its values in `detail`.
-#[unsafe(no_mangle)]
-pub extern "C" fn mz_push(
+pub fn mz_push(
     text: &mut [u8],
     records: &mut [usize],
     head: &mut [usize; 4],
@@ -91,8 +87,7 @@ pub extern "C" fn mz_push(
 }
 
 // A scope ends: `scope_declare::pop_in`.
-#[unsafe(no_mangle)]
-pub extern "C" fn mz_pop(text: &mut [u8], records: &mut [usize], head: &mut [usize; 4]) -> usize
+pub fn mz_pop(text: &mut [u8], records: &mut [usize], head: &mut [usize; 4]) -> usize
     ensures { crossed result text.new records.new head.new []
         ≡ change_in (lent_of pop_of) text.old records.old head.old [] }
 {
@@ -102,13 +97,7 @@ pub extern "C" fn mz_pop(text: &mut [u8], records: &mut [usize], head: &mut [usi
 }
 
 // A level is set, and the records above it are dropped: `scope_change::set_level_in`.
-#[unsafe(no_mangle)]
-pub extern "C" fn mz_set_level(
-    text: &mut [u8],
-    records: &mut [usize],
-    head: &mut [usize; 4],
-    to: u16,
-) -> usize
+pub fn mz_set_level(text: &mut [u8], records: &mut [usize], head: &mut [usize; 4], to: u16) -> usize
     ensures { crossed result text.new records.new head.new []
         ≡ change_in (lent_of (level_of to)) text.old records.old head.old [] }
 {
@@ -128,8 +117,7 @@ fn declared_by(named: bool) -> PrefixDeclaration
 }
 
 // A binding goes in: `scope_declare::add_in`. Without `named` the default, whatever `prefix` holds.
-#[unsafe(no_mangle)]
-pub extern "C" fn mz_add<'p>(
+pub fn mz_add<'p>(
     text: &mut [u8],
     records: &mut [usize],
     head: &mut [usize; 4],

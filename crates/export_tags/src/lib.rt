@@ -1,4 +1,4 @@
-// What the static library exports of names and tags, for Rust or C to link. Each function hands
+// What the static library exports of names and tags (crates/export_tags_c), for Rust or C to link. Each function hands
 // its slices on to the crate that has the rule, and answers by a number or a bool; none asks anything of its caller.
 #![tactic(auto)]
 
@@ -16,40 +16,35 @@ use tag_step::Standing;
 const NONE: usize = 18446744073709551615;
 
 // The index of the first colon, or the length where there is none.
-#[unsafe(no_mangle)]
-pub extern "C" fn mz_split(name: &[u8]) -> usize
+pub fn mz_split(name: &[u8]) -> usize
     ensures { result ≡ colon_at name.now }
 {
     name::colon_at(name)
 }
 
 // What a name declares: 0 nothing, 1 the default, 2 a prefix, which is the name from index 6 on.
-#[unsafe(no_mangle)]
-pub extern "C" fn mz_declares(name: &[u8]) -> usize
+pub fn mz_declares(name: &[u8]) -> usize
     ensures { result ≡ declares_number (declares_of name.now) }
 {
     name::as_namespace_binding(name).number()
 }
 
 // Whether a prefix is `xml`.
-#[unsafe(no_mangle)]
-pub extern "C" fn mz_is_xml(prefix: &[u8]) -> bool
+pub fn mz_is_xml(prefix: &[u8]) -> bool
     ensures { result ≡ is_xml prefix.now }
 {
     name::is_xml(prefix)
 }
 
 // Whether a prefix is `xmlns`.
-#[unsafe(no_mangle)]
-pub extern "C" fn mz_is_xmlns(prefix: &[u8]) -> bool
+pub fn mz_is_xmlns(prefix: &[u8]) -> bool
     ensures { result ≡ is_xmlns prefix.now }
 {
     name::is_xmlns(prefix)
 }
 
 // The verdict on an attribute as a declaration, by its whole name and its value: 0 no, 1 yes, 2 it declares nothing.
-#[unsafe(no_mangle)]
-pub extern "C" fn mz_verdict(name: &[u8], value: &[u8]) -> usize
+pub fn mz_verdict(name: &[u8], value: &[u8]) -> usize
     ensures { result ≡ verdict_number (verdict_of name.now value.now) }
 {
     name::verdict_of(name, value).number()
@@ -60,8 +55,7 @@ pub extern "C" fn mz_verdict(name: &[u8], value: &[u8]) -> usize
 // is full, 1 the end, 2 the tables have no place for the next key); it is left as the next call takes it. The result is the
 // number of answers, or the largest number there is where a table has more places than there can be keys. With room for
 // no answer nothing is written.
-#[unsafe(no_mangle)]
-pub extern "C" fn mz_read_batch<'a>(
+pub fn mz_read_batch<'a>(
     tag: &[u8],
     starts: &'a mut [usize],
     ends: &'a mut [usize],
