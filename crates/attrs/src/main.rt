@@ -8,11 +8,12 @@
 // 256 answers at a time: once to count them, once to show them.
 #![tactic(auto)]
 
-ghost use Rattle.std.specs.Prelude.{◌≡◌, ◌+◌, ◌≤◌, length};
+ghost use Rattle.std.specs.Prelude.{◌≡◌, ◌+◌, ◌≤◌, length, IfOk, OnOk, OnErr};
 ghost use Rattle.tag_step.specs.Run.{answers_of};
 ghost use Rattle.attrs.specs.Count.{AttrsMemory, attrs_opened, attrs_answers};
 ghost use Rattle.attrs.specs.Output.{count_line, output_of, ComesNext, ToCount, Counted, ToShow};
 
+use std::io::Read;
 use tag_batch::Batch;
 use tag_keys::CAPACITY;
 use tag_step::{Place, Standing};
@@ -68,29 +69,34 @@ fn count(tag: &[u8]) -> usize
     count_on(tag, &mut starts, &mut ends, &mut hashes, &mut numbers)
 }
 
-// Writes the next part of the output, of which `written` bytes are written already. All that a tag gives goes this way.
-fn write_next(tag: &[u8], text: &[u8], written: &mut usize)
+// Writes the next part of the output, of which `written` bytes are written already. All that a tag gives goes this way. Where it
+// can't be written it does not count.
+fn write_next(rt: &impl Print, tag: &[u8], text: &[u8], written: &mut usize) -> std::io::Result<()>
     requires { ComesNext tag.now written.old text.now }
-    ensures { written.new ≡ written.old + length text.now }
+    ensures ok { OnOk result (written.new ≡ written.old + length text.now) }
+    ensures err { OnErr result (written.new ≡ written.old) }
 {
-    io::write_all(1, text);
+    rt.write_all(text)?;
     *written += text.len();
+    Ok(())
 }
 
 // The count, as a line.
-fn show_count(tag: &[u8], total: usize, written: &mut usize)
+fn show_count(rt: &impl Print, tag: &[u8], total: usize, written: &mut usize) -> std::io::Result<()>
     requires { ToCount tag.now written.old total }
-    ensures { written.new ≡ length (count_line total) }
+    ensures ok { OnOk result (written.new ≡ length (count_line total)) }
+    ensures err { OnErr result (written.new ≤ length (output_of tag.now)) }
 {
-    write_next(tag, b"answers ", written);
+    write_next(rt, tag, b"answers ", written)?;
     let mut digits = [0u8; 20];
     let k = io::decimal(total as u64, &mut digits);
-    write_next(tag, &digits[..k], written);
-    write_next(tag, b"\n", written);
+    write_next(rt, tag, &digits[..k], written)?;
+    write_next(rt, tag, b"\n", written)
 }
 
 // The lines of the answers, one page after another on lent tables: each page is the next 256 answers, the last one fewer.
 fn show_on<'a>(
+    rt: &impl Print,
     tag: &[u8],
     starts: &'a mut [usize],
     ends: &'a mut [usize],
@@ -98,9 +104,10 @@ fn show_on<'a>(
     numbers: &mut [usize],
     text: &mut [u8],
     written: &mut usize,
-)
+) -> std::io::Result<()>
     requires { ToShow tag.now starts.old ends.old hashes.old numbers.old text.old written.old }
-    ensures { written.new ≡ length (output_of tag.now) }
+    ensures ok { OnOk result (written.new ≡ length (output_of tag.now)) }
+    ensures err { OnErr result (written.new ≤ length (output_of tag.now)) }
 {
     let mut place = Place::Next(0);
     let mut recorded = 0;
@@ -114,13 +121,13 @@ fn show_on<'a>(
         };
         let page = lines::page(tag, starts, ends, hashes, at, numbers, text);
         let length = page.length;
-        write_next(tag, &text[..length], written);
+        write_next(rt, tag, &text[..length], written)?;
         let left = page.left;
         let Batch::Read(n, behind, keys, _) = left else {
-            return;
+            return Ok(());
         };
         if n < ANSWERS {
-            return;
+            return Ok(());
         }
         shown += n;
         place = behind;
@@ -128,9 +135,10 @@ fn show_on<'a>(
     }
 }
 
-fn show(tag: &[u8], written: &mut usize)
+fn show(rt: &impl Print, tag: &[u8], written: &mut usize) -> std::io::Result<()>
     requires { Counted tag.now written.old }
-    ensures { written.new ≡ length (output_of tag.now) }
+    ensures ok { OnOk result (written.new ≡ length (output_of tag.now)) }
+    ensures err { OnErr result (written.new ≤ length (output_of tag.now)) }
 {
     let mut starts = [0usize; CAPACITY];
     let mut ends = [0usize; CAPACITY];
@@ -138,6 +146,7 @@ fn show(tag: &[u8], written: &mut usize)
     let mut numbers = [0usize; NUMBERS];
     let mut text = [0u8; TEXT];
     show_on(
+        rt,
         tag,
         &mut starts,
         &mut ends,
@@ -145,28 +154,29 @@ fn show(tag: &[u8], written: &mut usize)
         &mut numbers,
         &mut text,
         written,
-    );
+    )
 }
 
 // Writes the whole output, from its first byte on, and answers how many bytes that are.
-fn print(tag: &[u8]) -> usize
+fn print(rt: &impl Print, tag: &[u8]) -> std::io::Result<usize>
     requires { length tag.now ≤ 65536 }
-    ensures { result ≡ length (output_of tag.now) }
+    ensures { IfOk result (λ n. n ≡ length (output_of tag.now)) }
 {
     let mut written = 0;
     let total = count(tag);
-    show_count(tag, total, &mut written);
-    show(tag, &mut written);
-    written
+    show_count(rt, tag, total, &mut written)?;
+    show(rt, tag, &mut written)?;
+    Ok(written)
 }
 
-fn main() {
-    let mut buffer = io::large_buffer();
-    let n = io::read_full(0, &mut buffer);
+fn main(rt: HostRuntime) -> std::io::Result<()> {
+    let mut buffer = [0u8; 65536];
+    let count = std::io::copy(&mut rt.stdin().take(65536), &mut &mut buffer[..])?;
+    let n = buffer.len().min(count as usize);
     let mut one = [0u8; 1];
-    if io::read_full(0, &mut one) > 0 {
-        io::write_all(1, b"too long\n");
-        return;
+    if rt.stdin().read(&mut one)? > 0 {
+        return println!(rt; "too long");
     }
-    print(&buffer[..n]);
+    print(&rt, &buffer[..n])?;
+    Ok(())
 }

@@ -2,6 +2,8 @@
 // `./bench --by-value` times it; nothing stands on it.
 #![tactic(auto)]
 
+use std::io;
+use std::io::Read;
 use tag_step::{Answer, IterState};
 
 // How many answers the tag has, the end not counted. Each takes a byte of the tag at least.
@@ -20,9 +22,10 @@ fn answers(tag: &[u8]) -> usize {
     count
 }
 
-fn main() {
-    let mut buffer = io::large_buffer();
-    let times = io::read_full(0, &mut buffer);
+fn main(rt: HostRuntime) -> io::Result<()> {
+    let mut buffer = [0u8; 65536];
+    let count = io::copy(&mut rt.stdin().take(65536), &mut &mut buffer[..])?;
+    let times = buffer.len().min(count as usize);
     let mut last = 0;
     let mut i = 0;
     while i < times {
@@ -31,6 +34,5 @@ fn main() {
         );
         i += 1;
     }
-    io::print_decimal(1, last as u64);
-    io::write_all(1, b"\n");
+    println!(rt; "{last}")
 }

@@ -7,49 +7,58 @@
 // runs the same code with the hash cut to 8 bits, and the answers are the same.
 #![tactic(auto)]
 
+use std::io;
+use std::io::Read;
 use tag_batch::Batch;
 use tag_keys::CAPACITY;
 use tag_step::{Place, Standing};
 
-fn say(n: usize) {
-    io::write_all(1, b" ");
-    io::print_decimal(1, n as u64);
+fn say(rt: &impl Print, n: usize) -> io::Result<()> {
+    print!(rt; " {n}")
 }
 
-fn say_hash(hash: u32) {
-    say(hash as usize);
+fn say_hash(rt: &impl Print, hash: u32) -> io::Result<()> {
+    say(rt, hash as usize)
 }
 
 // The first `count` keys of the tables, as far as these go.
-fn show_kept<'a>(starts: &'a [usize], ends: &'a [usize], hashes: &'a [u32], count: usize) {
+fn show_kept<'a>(
+    rt: &impl Print,
+    starts: &'a [usize],
+    ends: &'a [usize],
+    hashes: &'a [u32],
+    count: usize,
+) -> io::Result<()> {
     let mut i = 0;
     while i < count {
         if i >= starts.len() {
-            return;
+            return Ok(());
         }
         if i >= ends.len() {
-            return;
+            return Ok(());
         }
         if i >= hashes.len() {
-            return;
+            return Ok(());
         }
-        io::write_all(1, b"K");
-        say(starts[i]);
-        say(ends[i]);
-        say_hash(hashes[i]);
-        io::write_all(1, b"\n");
+        print!(rt; "K")?;
+        say(rt, starts[i])?;
+        say(rt, ends[i])?;
+        say_hash(rt, hashes[i])?;
+        println!(rt)?;
         i += 1;
     }
+    Ok(())
 }
 
 fn show<'a>(
+    rt: &impl Print,
     tag: &[u8],
     starts: &'a mut [usize],
     ends: &'a mut [usize],
     hashes: &'a mut [u32],
     numbers: &mut [usize],
     text: &mut [u8],
-) {
+) -> io::Result<()> {
     let at = Standing {
         place: Place::Next(0),
         html: false,
@@ -59,29 +68,31 @@ fn show<'a>(
     let page = lines::page(tag, starts, ends, hashes, at, numbers, text);
     let length = page.length;
     if length <= text.len() {
-        io::write_all(1, &text[..length]);
+        rt.write_all(&text[..length])?;
     }
     let left = page.left;
     let Batch::Read(_, _, count, _) = left else {
-        return;
+        return Ok(());
     };
-    show_kept(starts, ends, hashes, count);
+    show_kept(rt, starts, ends, hashes, count)
 }
 
-fn main() {
-    let mut buffer = io::large_buffer();
-    let n = io::read_full(0, &mut buffer);
+fn main(rt: HostRuntime) -> io::Result<()> {
+    let mut buffer = [0u8; 65536];
+    let count = io::copy(&mut rt.stdin().take(65536), &mut &mut buffer[..])?;
+    let n = buffer.len().min(count as usize);
     let mut starts = [0usize; CAPACITY];
     let mut ends = [0usize; CAPACITY];
     let mut hashes = [0u32; CAPACITY];
     let mut numbers = [0usize; 320];
     let mut text = [0u8; 6848];
     show(
+        &rt,
         &buffer[..n],
         &mut starts,
         &mut ends,
         &mut hashes,
         &mut numbers,
         &mut text,
-    );
+    )
 }

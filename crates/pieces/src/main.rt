@@ -11,6 +11,8 @@
 
 ghost use Rattle.std.specs.Prelude.{◌≤◌};
 
+use std::env::Env;
+use std::io::Read;
 use tag_keys::CAPACITY;
 use tag_phase::Phase;
 use tag_pieces::{Cursor, Growth, HOLD};
@@ -83,12 +85,14 @@ fn size_of(word: &[u8]) -> usize
 }
 
 // Writes text to standard output, and says why where it can't.
-fn write(text: &[u8]) -> bool {
-    if io::write_all(1, text) {
-        return true;
+fn write(rt: &(impl Print + Eprint), text: &[u8]) -> bool {
+    match rt.write_all(text) {
+        Ok(()) => true,
+        Err(why) => {
+            let _ = eprintln!(rt; "can't write to standard output: {why}");
+            false
+        }
     }
-    os::fail(b"can't write to standard output");
-    false
 }
 
 // The reader once a piece came in.
@@ -123,6 +127,7 @@ fn finished(at: Cursor) -> Cursor {
 
 // Shows the answers that are ready, so many at a time. No tag has more than one for each byte.
 fn show_ready<'a>(
+    rt: &(impl Print + Eprint),
     text: &[u8],
     starts: &'a mut [usize],
     ends: &'a mut [usize],
@@ -146,7 +151,7 @@ fn show_ready<'a>(
         };
         at = left;
         answers = std::num::wrapping_add_usize(answers, n);
-        let written = write_lines(numbers, n, out);
+        let written = write_lines(rt, numbers, n, out);
         if n < ANSWERS {
             return Shown {
                 at: at,
@@ -164,7 +169,7 @@ fn show_ready<'a>(
 }
 
 // The lines of the first `n` answers.
-fn write_lines(numbers: &[usize], n: usize, out: &mut [u8]) -> bool {
+fn write_lines(rt: &(impl Print + Eprint), numbers: &[usize], n: usize, out: &mut [u8]) -> bool {
     if n > ANSWERS {
         return false;
     }
@@ -176,21 +181,22 @@ fn write_lines(numbers: &[usize], n: usize, out: &mut [u8]) -> bool {
     if length > out.len() {
         return false;
     }
-    write(&out[..length])
+    write(rt, &out[..length])
 }
 
-fn write_count(answers: usize) {
+fn write_count(rt: &(impl Print + Eprint), answers: usize) {
     let mut digits = [0u8; 20];
     let k = io::decimal(answers as u64, &mut digits);
-    if write(b"answers ") {
-        if write(&digits[..k]) {
-            write(b"\n");
+    if write(rt, b"answers ") {
+        if write(rt, &digits[..k]) {
+            write(rt, b"\n");
         }
     }
 }
 
 // Takes in one piece more, and shows what is ready then.
 fn show_piece<'a>(
+    rt: &(impl Print + Eprint),
     piece: &[u8],
     text: &mut [u8],
     starts: &'a mut [usize],
@@ -204,10 +210,11 @@ fn show_piece<'a>(
     let growth = tag_pieces::piece_in(text, at, piece);
     let fed = growth.fed;
     if fed.number() > 0 {
-        write(b"too long\n");
+        write(rt, b"too long\n");
         return stopped(so);
     }
     show_ready(
+        rt,
         text,
         starts,
         ends,
@@ -221,6 +228,7 @@ fn show_piece<'a>(
 
 // Shows what is left once all came in, and how many answers there were.
 fn show_rest<'a>(
+    rt: &(impl Print + Eprint),
     text: &[u8],
     starts: &'a mut [usize],
     ends: &'a mut [usize],
@@ -231,6 +239,7 @@ fn show_rest<'a>(
 ) {
     let at = so.at;
     let last = show_ready(
+        rt,
         text,
         starts,
         ends,
@@ -241,12 +250,14 @@ fn show_rest<'a>(
         so.answers,
     );
     if last.goes_on {
-        write_count(last.answers);
+        write_count(rt, last.answers);
     }
 }
 
 // Reads one piece into `buffer`, as many bytes as are there, and shows what is ready then; or what is left, at the end.
 fn read_piece<'a>(
+    rt: &(impl Print + Eprint),
+    from: &mut impl Read,
     buffer: &mut [u8],
     text: &mut [u8],
     starts: &'a mut [usize],
@@ -256,22 +267,35 @@ fn read_piece<'a>(
     out: &mut [u8],
     so: Shown,
 ) -> Shown {
-    let got = libc::read(0, buffer);
-    if got < 0 {
-        os::fail(b"can't read standard input");
-        return stopped(so);
-    }
-    let n = io::count(got, buffer);
+    let n = match from.read(buffer) {
+        Ok(n) => n,
+        Err(why) => {
+            let _ = eprintln!(rt; "can't read standard input: {why}");
+            return stopped(so);
+        }
+    };
     if n == 0 {
-        show_rest(text, starts, ends, hashes, numbers, out, so);
+        show_rest(rt, text, starts, ends, hashes, numbers, out, so);
         return stopped(so);
     }
-    show_piece(&buffer[..n], text, starts, ends, hashes, numbers, out, so)
+    show_piece(
+        rt,
+        &buffer[..n],
+        text,
+        starts,
+        ends,
+        hashes,
+        numbers,
+        out,
+        so,
+    )
 }
 
 // Reads to the end of standard input. A piece has a byte at least, so that there is one for each byte that can be held, and one
 // that is too long, at most.
 fn read<'a>(
+    rt: &(impl Print + Eprint),
+    from: &mut impl Read,
     buffer: &mut [u8],
     text: &mut [u8],
     starts: &'a mut [usize],
@@ -283,7 +307,9 @@ fn read<'a>(
     let mut so = opened();
     let mut turns = HOLD + 1;
     while turns > 0 {
-        so = read_piece(buffer, text, starts, ends, hashes, numbers, out, so);
+        so = read_piece(
+            rt, from, buffer, text, starts, ends, hashes, numbers, out, so,
+        );
         if !so.goes_on {
             return;
         }
@@ -291,22 +317,25 @@ fn read<'a>(
     }
 }
 
-fn main() {
+fn main(rt: HostRuntime) {
     let mut word = [0u8; 5];
-    let k = os::arg(1, &mut word);
+    // no word, and one that is longer, is no size
+    let k = rt.arg(1, &mut word).unwrap_or(0);
     let size = size_of(&word[..k]);
     if size == 0 {
-        io::write_all(2, b"a size from 1 to 65,536 is wanted\n");
+        let _ = eprintln!(rt; "a size from 1 to 65,536 is wanted");
         return;
     }
-    let mut buffer = io::large_buffer();
-    let mut text = io::large_buffer();
+    let mut buffer = [0u8; 65536];
+    let mut text = [0u8; 65536];
     let mut starts = [0usize; CAPACITY];
     let mut ends = [0usize; CAPACITY];
     let mut hashes = [0u32; CAPACITY];
     let mut numbers = [0usize; NUMBERS];
     let mut out = [0u8; TEXT];
     read(
+        &rt,
+        &mut rt.stdin(),
         &mut buffer[..size],
         &mut text,
         &mut starts,

@@ -9,6 +9,8 @@
 // holds the answers against those of `attrs`.
 #![tactic(auto)]
 
+use std::io;
+use std::io::Read;
 use tag_pieces::{Feeding, HOLD, Reader, Take, Taken};
 use tag_step::Answer;
 
@@ -34,20 +36,20 @@ fn take(in_place: bool, r: Reader) -> Take {
 }
 
 // An answer's line, behind the number of bytes that are held.
-fn show(held: usize, answer: Answer) {
+fn show(rt: &impl Print, held: usize, answer: Answer) -> io::Result<()> {
     let mut five = [0usize; 5];
     tag_batch::put(&mut five, 0, tag_batch::numbers(answer));
     let mut text = [0u8; lines::LONGEST];
     let length = lines::put_lines(&five, &mut text);
-    io::print_decimal(1, held as u64);
-    io::write_all(1, b" ");
+    print!(rt; "{held} ")?;
     if length <= text.len() {
-        io::write_all(1, &text[..length]);
+        rt.write_all(&text[..length])?;
     }
+    Ok(())
 }
 
 // Shows the answers that are ready, and gives back the reader then. There is one for each byte that is held at most.
-fn show_ready(in_place: bool, r: Reader) -> Reader {
+fn show_ready(rt: &impl Print, in_place: bool, r: Reader) -> io::Result<Reader> {
     let mut left = r;
     let mut i = 0;
     while i < HOLD {
@@ -56,61 +58,61 @@ fn show_ready(in_place: bool, r: Reader) -> Reader {
         left = after;
         let taken = x.taken;
         let Taken::Gives(answer) = taken else {
-            return left;
+            return Ok(left);
         };
         if let Answer::End = answer {
-            return left;
+            return Ok(left);
         }
-        show(left.held, answer);
+        show(rt, left.held, answer)?;
         i += 1;
     }
-    left
+    Ok(left)
 }
 
 // The number of what became of a piece or a finish.
-fn say(what: &[u8], x: Feeding) {
-    let fed = x.fed;
-    io::write_all(1, what);
-    io::print_decimal(1, fed.number() as u64);
-    io::write_all(1, b"\n");
+fn say(rt: &impl Print, what: &str, x: Feeding) -> io::Result<()> {
+    let number = x.fed.number();
+    println!(rt; "{what}{number}")
 }
 
 // One after another: a piece of each byte, the finish, a second one, a piece after it, and then a count of held bytes that no
 // reader has.
-fn run(tag: &[u8], in_place: bool, html: bool, checks: bool) {
+fn run(rt: &impl Print, tag: &[u8], in_place: bool, html: bool, checks: bool) -> io::Result<()> {
     let mut r = reader::with_checks(reader::new(0, html), checks);
     let mut i = 0;
     while i < tag.len() {
         let next = i + 1;
         let x = piece(in_place, r, &tag[i..next]);
         let after = x.reader;
-        r = show_ready(in_place, after);
+        r = show_ready(rt, in_place, after)?;
         i = next;
     }
     let x = finish(in_place, r);
     let after = x.reader;
-    r = show_ready(in_place, after);
-    say(b"finish ", finish(in_place, r));
-    say(b"piece ", piece(in_place, r, tag));
+    r = show_ready(rt, in_place, after)?;
+    say(rt, "finish ", finish(in_place, r))?;
+    say(rt, "piece ", piece(in_place, r, tag))?;
     r.held = HOLD + 1;
-    show_ready(in_place, r);
+    show_ready(rt, in_place, r)?;
+    Ok(())
 }
 
 // In both modes, and with checks off.
-fn run_form(tag: &[u8], in_place: bool) {
-    io::write_all(1, b"XML\n");
-    run(tag, in_place, false, true);
-    io::write_all(1, b"HTML\n");
-    run(tag, in_place, true, true);
-    io::write_all(1, b"HTML, checks off\n");
-    run(tag, in_place, true, false);
+fn run_form(rt: &impl Print, tag: &[u8], in_place: bool) -> io::Result<()> {
+    println!(rt; "XML")?;
+    run(rt, tag, in_place, false, true)?;
+    println!(rt; "HTML")?;
+    run(rt, tag, in_place, true, true)?;
+    println!(rt; "HTML, checks off")?;
+    run(rt, tag, in_place, true, false)
 }
 
-fn main() {
-    let mut buffer = io::buffer();
-    let n = io::read_full(0, &mut buffer);
-    io::write_all(1, b"by value\n");
-    run_form(&buffer[..n], false);
-    io::write_all(1, b"in place\n");
-    run_form(&buffer[..n], true);
+fn main(rt: HostRuntime) -> io::Result<()> {
+    let mut buffer = [0u8; 4096];
+    let count = io::copy(&mut rt.stdin().take(4096), &mut &mut buffer[..])?;
+    let n = buffer.len().min(count as usize);
+    println!(rt; "by value")?;
+    run_form(&rt, &buffer[..n], false)?;
+    println!(rt; "in place")?;
+    run_form(&rt, &buffer[..n], true)
 }

@@ -15,6 +15,8 @@ use replay::{RecordStep, Replayed, RunEnd};
 use scope_lookup::Namespace;
 use scope_nil::HasNil;
 use scope_table::NamespaceResolver;
+use std::io;
+use std::io::Read;
 use tag_step::{IterState, Place};
 
 // An answer in numbers, with zeros behind them.
@@ -206,50 +208,42 @@ fn room() -> [u8; 131072]
 }
 
 // A number on standard output, with the words before it.
-fn say(words: &[u8], n: usize) {
-    io::write_all(1, words);
-    io::print_decimal(1, n as u64);
+fn say(rt: &impl Print, words: &str, n: usize) -> io::Result<()> {
+    print!(rt; "{words}{n}")
 }
 
 // The end of a line of counts: all agreed, or where the run stopped.
-fn say_end(end: RunEnd) {
+fn say_end(rt: &impl Print, end: RunEnd) -> io::Result<()> {
     match end {
-        RunEnd::All => {
-            io::write_all(1, b", all as recorded\n");
-        }
-        RunEnd::Differs(at) => {
-            say(b" as recorded, and one that is not at byte ", at);
-            io::write_all(1, b"\n");
-        }
-        RunEnd::Cut(at) => {
-            say(b" as recorded, and no whole record at byte ", at);
-            io::write_all(1, b"\n");
-        }
+        RunEnd::All => println!(rt; ", all as recorded"),
+        RunEnd::Differs(at) => { println!(rt; " as recorded, and one that is not at byte {at}") }
+        RunEnd::Cut(at) => println!(rt; " as recorded, and no whole record at byte {at}"),
     }
 }
 
 // Whether standard input goes on behind what was read, which is then said.
-fn too_long() -> bool {
+fn too_long(rt: &impl Print, from: &mut impl Read) -> io::Result<bool> {
     let mut one = [0u8; 1];
-    if io::read_full(0, &mut one) > 0 {
-        io::write_all(1, b"too long\n");
-        return true;
+    if from.read(&mut one)? > 0 {
+        println!(rt; "too long")?;
+        return Ok(true);
     }
-    false
+    Ok(false)
 }
 
-fn show(run: Replayed) {
-    say(b"questions ", run.records);
+fn show(rt: &impl Print, run: Replayed) -> io::Result<()> {
+    say(rt, "questions ", run.records)?;
     let end = run.end;
-    say_end(end);
+    say_end(rt, end)
 }
 
-fn main() {
+fn main(rt: HostRuntime) -> io::Result<()> {
     let mut buffer = room();
-    let n = io::read_full(0, &mut buffer);
-    if too_long() {
-        return;
+    let count = io::copy(&mut rt.stdin().take(131072), &mut &mut buffer[..])?;
+    let n = buffer.len().min(count as usize);
+    if too_long(&rt, &mut rt.stdin())? {
+        return Ok(());
     }
-    show(replay(&buffer[..n], false));
-    show(replay(&buffer[..n], true));
+    show(&rt, replay(&buffer[..n], false))?;
+    show(&rt, replay(&buffer[..n], true))
 }

@@ -14,6 +14,8 @@ ghost use Rattle.replay_names.specs.Replay.{colon_number, start_number, xml_numb
 
 use name::Colon;
 use replay::{RecordStep, Replayed, RunEnd};
+use std::io;
+use std::io::Read;
 
 fn colon_number(name: &[u8]) -> usize
     ensures { result ≡ colon_number name.now }
@@ -112,51 +114,43 @@ fn room() -> [u8; 262144]
 }
 
 // A number on standard output, with the words before it.
-fn say(words: &[u8], n: usize) {
-    io::write_all(1, words);
-    io::print_decimal(1, n as u64);
+fn say(rt: &impl Print, words: &str, n: usize) -> io::Result<()> {
+    print!(rt; "{words}{n}")
 }
 
 // The end of a line of counts: all agreed, or where the run stopped. `which` says what a record is.
-fn say_end(end: RunEnd, which: &[u8]) {
+fn say_end(rt: &impl Print, end: RunEnd, which: &str) -> io::Result<()> {
     match end {
-        RunEnd::All => {
-            io::write_all(1, b", all as recorded\n");
-        }
+        RunEnd::All => println!(rt; ", all as recorded"),
         RunEnd::Differs(at) => {
-            io::write_all(1, b" as recorded, and ");
-            io::write_all(1, which);
-            say(b" that is not at byte ", at);
-            io::write_all(1, b"\n");
+            println!(rt; " as recorded, and {which} that is not at byte {at}")
         }
-        RunEnd::Cut(at) => {
-            say(b" as recorded, and no whole record at byte ", at);
-            io::write_all(1, b"\n");
-        }
+        RunEnd::Cut(at) => println!(rt; " as recorded, and no whole record at byte {at}"),
     }
 }
 
 // Whether standard input goes on behind what was read, which is then said.
-fn too_long() -> bool {
+fn too_long(rt: &impl Print, from: &mut impl Read) -> io::Result<bool> {
     let mut one = [0u8; 1];
-    if io::read_full(0, &mut one) > 0 {
-        io::write_all(1, b"too long\n");
-        return true;
+    if from.read(&mut one)? > 0 {
+        println!(rt; "too long")?;
+        return Ok(true);
     }
-    false
+    Ok(false)
 }
 
-fn show(run: Replayed) {
-    say(b"names ", run.records);
+fn show(rt: &impl Print, run: Replayed) -> io::Result<()> {
+    say(rt, "names ", run.records)?;
     let end = run.end;
-    say_end(end, b"one");
+    say_end(rt, end, "one")
 }
 
-fn main() {
+fn main(rt: HostRuntime) -> io::Result<()> {
     let mut buffer = room();
-    let n = io::read_full(0, &mut buffer);
-    if too_long() {
-        return;
+    let count = io::copy(&mut rt.stdin().take(262144), &mut &mut buffer[..])?;
+    let n = buffer.len().min(count as usize);
+    if too_long(&rt, &mut rt.stdin())? {
+        return Ok(());
     }
-    show(replay(&buffer[..n]));
+    show(&rt, replay(&buffer[..n]))
 }

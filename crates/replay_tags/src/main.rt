@@ -17,6 +17,8 @@ ghost use Rattle.replay.specs.Numbers.{twos_of};
 ghost use Rattle.replay_tags.specs.Replay.{answers_agree, ReplayMemory, replay_opened, tag_record_of, tags_replayed};
 
 use replay::{RecordStep, Replayed, RunEnd};
+use std::io;
+use std::io::Read;
 use tag_batch::{Batch, Five};
 use tag_keys::CAPACITY;
 use tag_step::{IterState, Place, Standing};
@@ -224,59 +226,51 @@ fn room() -> [u8; 262144]
 }
 
 // A number on standard output, with the words before it.
-fn say(words: &[u8], n: usize) {
-    io::write_all(1, words);
-    io::print_decimal(1, n as u64);
+fn say(rt: &impl Print, words: &str, n: usize) -> io::Result<()> {
+    print!(rt; "{words}{n}")
 }
 
 // The end of a line of counts: all agreed, or where the run stopped. `which` says what a record is.
-fn say_end(end: RunEnd, which: &[u8]) {
+fn say_end(rt: &impl Print, end: RunEnd, which: &str) -> io::Result<()> {
     match end {
-        RunEnd::All => {
-            io::write_all(1, b", all as recorded\n");
-        }
+        RunEnd::All => println!(rt; ", all as recorded"),
         RunEnd::Differs(at) => {
-            io::write_all(1, b" as recorded, and ");
-            io::write_all(1, which);
-            say(b" that is not at byte ", at);
-            io::write_all(1, b"\n");
+            println!(rt; " as recorded, and {which} that is not at byte {at}")
         }
-        RunEnd::Cut(at) => {
-            say(b" as recorded, and no whole record at byte ", at);
-            io::write_all(1, b"\n");
-        }
+        RunEnd::Cut(at) => println!(rt; " as recorded, and no whole record at byte {at}"),
     }
 }
 
 // Whether standard input goes on behind what was read, which is then said.
-fn too_long() -> bool {
+fn too_long(rt: &impl Print, from: &mut impl Read) -> io::Result<bool> {
     let mut one = [0u8; 1];
-    if io::read_full(0, &mut one) > 0 {
-        io::write_all(1, b"too long\n");
-        return true;
+    if from.read(&mut one)? > 0 {
+        println!(rt; "too long")?;
+        return Ok(true);
     }
-    false
+    Ok(false)
 }
 
-fn show(run: Replayed) {
-    say(b"tags ", run.records);
+fn show(rt: &impl Print, run: Replayed) -> io::Result<()> {
+    say(rt, "tags ", run.records)?;
     let end = run.end;
-    say_end(end, b"one");
+    say_end(rt, end, "one")
 }
 
-fn replay_thrice(records: &[u8]) {
+fn replay_thrice(rt: &impl Print, records: &[u8]) -> io::Result<()> {
     let mut many = [0usize; 2560];
     let mut single = [0usize; 5];
-    show(replay(records, false, &mut many));
-    show(replay(records, false, &mut single));
-    show(replay(records, true, &mut single));
+    show(rt, replay(records, false, &mut many))?;
+    show(rt, replay(records, false, &mut single))?;
+    show(rt, replay(records, true, &mut single))
 }
 
-fn main() {
+fn main(rt: HostRuntime) -> io::Result<()> {
     let mut buffer = room();
-    let n = io::read_full(0, &mut buffer);
-    if too_long() {
-        return;
+    let count = io::copy(&mut rt.stdin().take(262144), &mut &mut buffer[..])?;
+    let n = buffer.len().min(count as usize);
+    if too_long(&rt, &mut rt.stdin())? {
+        return Ok(());
     }
-    replay_thrice(&buffer[..n]);
+    replay_thrice(&rt, &buffer[..n])
 }

@@ -3,10 +3,12 @@
 // bars; then its answers, a line each (crates/lines), and `end`.
 #![tactic(auto)]
 
+use std::io;
 use tag_keys::CAPACITY;
 use tag_step::{Place, Standing};
 
 fn row_on<'a>(
+    rt: &impl Print,
     tag: &[u8],
     html: bool,
     open: usize,
@@ -15,7 +17,7 @@ fn row_on<'a>(
     hashes: &'a mut [u32],
     numbers: &mut [usize],
     text: &mut [u8],
-) {
+) -> io::Result<()> {
     let at = Standing {
         place: Place::Next(open),
         html: html,
@@ -25,26 +27,27 @@ fn row_on<'a>(
     let page = lines::page(tag, starts, ends, hashes, at, numbers, text);
     let length = page.length;
     if length <= text.len() {
-        io::write_all(1, &text[..length]);
+        rt.write_all(&text[..length])?;
     }
+    Ok(())
 }
 
-fn row(tag: &[u8], html: bool, open: usize) {
+fn row(rt: &impl Print, tag: &[u8], html: bool, open: usize) -> io::Result<()> {
     if html {
-        io::write_all(1, b"h ");
+        print!(rt; "h ")?;
     } else {
-        io::write_all(1, b"x ");
+        print!(rt; "x ")?;
     }
-    io::print_decimal(1, open as u64);
-    io::write_all(1, b" |");
-    io::write_all(1, tag);
-    io::write_all(1, b"|\n");
+    print!(rt; "{open} |")?;
+    rt.write_all(tag)?;
+    println!(rt; "|")?;
     let mut starts = [0usize; CAPACITY];
     let mut ends = [0usize; CAPACITY];
     let mut hashes = [0u32; CAPACITY];
     let mut numbers = [0usize; 80];
     let mut text = [0u8; 1712];
     row_on(
+        rt,
         tag,
         html,
         open,
@@ -53,21 +56,21 @@ fn row(tag: &[u8], html: bool, open: usize) {
         &mut hashes,
         &mut numbers,
         &mut text,
-    );
-    io::write_all(1, b"end\n");
+    )?;
+    println!(rt; "end")
 }
 
-fn main() {
-    row(b"", false, 0);
-    row(b"", false, 1);
-    row(b"a=\"1\"b='2'", false, 0);
-    row(b"a b=\"1\"", false, 0);
-    row(b"a=1 b='2'", false, 0);
-    row(b"a=\"1", false, 0);
-    row(b"a='1' a=\"2 3\" b='4'", false, 0);
-    row(b"=\"1\"", false, 0);
-    row(b"a=1 a='2'", false, 0);
-    row(b"a=='1'", false, 0);
-    row(b"a=='1'", true, 0);
-    row(b"a b=1", true, 0);
+fn main(rt: HostRuntime) -> io::Result<()> {
+    row(&rt, b"", false, 0)?;
+    row(&rt, b"", false, 1)?;
+    row(&rt, b"a=\"1\"b='2'", false, 0)?;
+    row(&rt, b"a b=\"1\"", false, 0)?;
+    row(&rt, b"a=1 b='2'", false, 0)?;
+    row(&rt, b"a=\"1", false, 0)?;
+    row(&rt, b"a='1' a=\"2 3\" b='4'", false, 0)?;
+    row(&rt, b"=\"1\"", false, 0)?;
+    row(&rt, b"a=1 a='2'", false, 0)?;
+    row(&rt, b"a=='1'", false, 0)?;
+    row(&rt, b"a=='1'", true, 0)?;
+    row(&rt, b"a b=1", true, 0)
 }
