@@ -1,10 +1,10 @@
 -- A page shows the answers: the five numbers of each give its own line.
-use Prim.Native.Nat.{ℕ, zero, suc, ◌+◌, ◌*◌, ◌/◌, ◌≤◌}
-use mathlib.Core.Path.{◌≡◌, refl, sym, ap, ◌∙◌}
+use Prim.Native.Nat.{ℕ, ◌*◌, ◌/◌, ◌≤◌}
+use mathlib.Core.Path.{◌≡◌, refl, sym, ap}
 use mathlib.Core.Bool.{Bool}
-use mathlib.Core.List.{List, [], ◌∷◌, ◌++◌}
+use mathlib.Core.List.{List, [], ◌∷◌}
 use native.Mathlib.Omega.{arith}
-use lib.ListN.{length, take, drop}
+use lib.ListN.{length, take}
 use lib.Seq.{take_at, drop_at}
 use Rattle.tag_step.specs.declared.Answer.{Answer}
 use Rattle.tag_step.specs.declared.Answer.TheVariants.{End, DoubleQ, SingleQ, Unquoted, Empty, ExpectedEq, ExpectedValue, UnquotedValue, ExpectedQuote, Duplicated, KeyTableFull, BadState}
@@ -19,7 +19,7 @@ use Rattle.tag_batch.specs.Batch.{five_of, fives_of, answers_room, Batched, batc
 use Rattle.tag_batch.specs.declared.Batch.{Batch}
 use Rattle.tag_batch.proofs.Full.{full_batch}
 use Rattle.tag_batch.proofs.Turns.{five_length}
-use Rattle.lines.specs.Lines.{line_of, lines_of, values_of, own_of, five_lines, lines_in}
+use Rattle.lines.specs.Lines.{lines_of, values_of, own_of, five_lines, lines_in}
 use Rattle.lines.specs.Page.{answers_count, PageLeft, page_left, lines_by, page_by, page_of}
 use Rattle.lines.specs.declared.Paged.{Paged}
 use Rattle.lines.proofs.Text.{lines_room}

@@ -1,26 +1,20 @@
 -- The text of numbers and of answers: how long it can be, and that the five numbers of an answer give its line.
 use Prim.Native.Nat.{ℕ, zero, suc, ◌+◌, ◌-◌, ◌*◌, ◌/◌, ◌^◌, ◌≤◌, ◌<◌}
-use mathlib.Core.Path.{◌≡◌, refl, sym, ap, ◌∙◌}
+use mathlib.Core.Path.{◌≡◌, refl, ap, ◌∙◌}
 use mathlib.Core.Bool.{Bool, true, false}
 use mathlib.Core.List.{List, [], ◌∷◌, ◌++◌}
 use native.Mathlib.Nat.{pow-le-pow_right}
 use native.Mathlib.Numerals.{add-one}
 use native.Mathlib.Omega.{arith}
 use lib.ListN.{length, take, drop, get_or, set, length-append, length-set, length-take, length-drop}
-use lib.Seq.{drop-cons, drop-drop, drop-length, take_at, drop_at}
+use lib.Seq.{drop-cons, drop-drop, drop-length}
 use lib.Dec.{eqb, ltb, leb}
 use borrow.Author.Tests.{lt-ltb, le-ltb, leb-true, leb-false}
 use Rattle.scan.specs.Lists.{over}
-use Rattle.io.specs.Digits.{last_digits, hex_digit_ascii, IsDigitCount}
-use Rattle.scan.specs.First.{pick, first_to}
+use Rattle.io.specs.Digits.{last_digits, IsDigitCount}
 use Rattle.scan.proofs.Laws.{IsFirst, to_first, first_only, picks}
-use Rattle.tag_step.specs.declared.Answer.{Answer}
-use Rattle.tag_step.specs.declared.Answer.TheVariants.{End, DoubleQ, SingleQ, Unquoted, Empty, ExpectedEq, ExpectedValue, UnquotedValue, ExpectedQuote, Duplicated, KeyTableFull, BadState}
-use Rattle.tag_step.specs.Numbers.{numbers_of}
-use Rattle.tag_batch.specs.Batch.{five_of, fives_of}
-use Rattle.tag_batch.proofs.Turns.{five_length}
 use Rattle.lines.proofs.Parts.{Part, part_first, part_byte, part_next, part_last}
-use Rattle.lines.specs.Lines.{digit_count, decimal_of, spaced, letter_of, shown_from, line_of, lines_of, values_of, own_of, five_lines, lines_in}
+use Rattle.lines.specs.Lines.{digit_count, decimal_of, spaced, letter_of, shown_from, line_of, values_of, own_of, five_lines, lines_in}
 
 -- Numbers.
 

@@ -1,7 +1,7 @@
 -- Answers as text: document 01, "Program `attrs`". A line for each: D or S with four bounds, or E with the refusal's number
 -- and its numbers in table order; a blank before each number, a line feed at the end. HTML mode, which `attrs` does not
 -- read, adds U with four bounds, and B for a bare key with its two.
-use Rattle.std.specs.Prelude.{ℕ, zero, suc, ◌/◌, ◌^◌, Bool, List, [], ◌∷◌, ◌++◌, length, take, drop, get_or, eqb, ltb}
+use Rattle.std.specs.Prelude.{ℕ, zero, suc, ◌/◌, ◌^◌, List, [], ◌∷◌, ◌++◌, length, take, drop, get_or, eqb, ltb}
 use Rattle.io.specs.Digits.{last_digits}
 use Rattle.scan.specs.First.{pick, first_to}
 use Rattle.tag_step.specs.declared.Answer.{Answer}

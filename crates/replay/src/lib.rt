@@ -123,6 +123,7 @@ fn stopped(run: Replayed, len: usize, end: RunEnd) -> Replayed
 }
 
 // The run after one more record of `len` bytes in all.
+#[tactic(auto, unfolding(crate::specs::Run::after_of))]
 pub fn after(run: Replayed, step: RecordStep, len: usize) -> Replayed
     requires { RunFits run step len }
     ensures { result ≡ after_of run step len }
