@@ -15,26 +15,9 @@ use Rattle.scan.specs.First.{pick, first_from, first_to, first_of}
 use Rattle.scan.specs.Bytes.{bytes, bytes_from, is_byte}
 use Rattle.scan.proofs.Laws.{IsFirst, first, first_only}
 use Rattle.name.specs.Split.{colon_at, has_colon, local_at, second_at, second_of, colon_or}
+use Rattle.name.specs.Second.{colons, IsSecond, SecondExactly}
 use Rattle.name.specs.declared.Colon.TheVariants.{At, Nowhere}
 use Rattle.name.proofs.Split.{at_nowhere, colon_first, local_place, no_colon, colon_inside, colon_outside, second_whole}
-
--- how many colons there are
-unfoldable pub colons : List ℕ → ℕ
-colons [] = 0
-colons (a ∷ s) = pick (is_byte 58 a) (suc (colons s)) (colons s)
-
--- A colon stands at j, with one before it: it is the second.
-pub record IsSecond (name : List ℕ) (j : ℕ) : Type 0 where
-  pub inside : j < length name
-  pub colon : get_or name j 0 ≡ 58
-  pub before : colons (take j name) ≡ 1
-
--- The second colon is told, and at its place, exactly if there is one: if the name has two colons or more.
-pub record SecondExactly (name : List ℕ) : Type 0 where
-  pub told : (j : ℕ) → second_of name ≡ At j → IsSecond name j
-  pub tells : (j : ℕ) → IsSecond name j → second_of name ≡ At j
-  pub none : second_of name ≡ Nowhere → colons name < 2
-  pub few : colons name < 2 → second_of name ≡ Nowhere
 
 -- Counting up to a place, and on from there.
 

@@ -1,4 +1,5 @@
 pub mod Split
+pub mod Second
 pub mod Reserved
 pub mod Declares
 pub mod Bind
