@@ -1,11 +1,11 @@
 -- What becomes of a piece, one law for each way.
-use Prim.Native.Nat.{ℕ, ◌+◌, ◌≤◌, ◌<◌}
+use Prim.Native.Nat.{ℕ, ◌+◌, ◌≤◌}
 use mathlib.Core.Path.{◌≡◌, refl, sym, ap, ◌∙◌}
 use mathlib.Core.Bool.{Bool, true, false, false≢true, true≢false}
 use mathlib.Core.List.{List}
 use lib.ListN.{length, take}
 use lib.Dec.{ltb}
-use borrow.Author.Tests.{lt-ltb, le-ltb, ltb-false}
+use borrow.Author.Tests.{ltb-false}
 use Rattle.scan.specs.First.{pick}
 use Rattle.scan.specs.Lists.{over}
 use Rattle.tag_step.specs.declared.Place.{Place}
@@ -14,23 +14,6 @@ use Rattle.tag_phase.specs.Phase.{carried_of}
 use Rattle.tag_pieces.specs.declared.Fed.{Fed}
 use Rattle.tag_pieces.specs.declared.Fed.TheVariants.{Accepted, Finished, TooLong, LendMore}
 use Rattle.tag_pieces.specs.Reader.{hold, fed_of, is_accepted, grown, grown_by, piece_in}
-
-pub fed_finished : (finished : Bool) (room held n : ℕ) → finished ≡ true → Finished ≡ fed_of finished room held n
-unfolding fed_of
-fed_finished finished room held n e = rw e
-
-module _ (finished : Bool) (room held n : ℕ) (open-still : finished ≡ false) where
-  pub fed_long : hold < held + n → TooLong ≡ fed_of finished room held n
-  unfolding fed_of
-  fed_long l = rw (open-still, lt-ltb hold (held + n) l)
-
-  pub fed_short : held + n ≤ hold → room < held + n → LendMore ≡ fed_of finished room held n
-  unfolding fed_of
-  fed_short h l = rw (open-still, le-ltb hold (held + n) h, lt-ltb room (held + n) l)
-
-  pub fed_taken : held + n ≤ hold → held + n ≤ room → Accepted ≡ fed_of finished room held n
-  unfolding fed_of
-  fed_taken h l = rw (open-still, le-ltb hold (held + n) h, le-ltb room (held + n) l)
 
 -- what an accepted piece has room for
 pub record Fits (room held n : ℕ) : Type 0 where

@@ -107,7 +107,8 @@ impl Fed {
     }
 }
 
-// What becomes of a piece of `n` bytes.
+// What becomes of a piece of `n` bytes. What is held may be any number, so that the sum is not made before it is known to fit.
+#[tactic(auto, unfolding(crate::specs::Reader::fed_of))]
 fn fed_by(finished: bool, room: usize, held: usize, n: usize) -> Fed
     ensures { result ≡ fed_of finished room held n }
 {
