@@ -52,7 +52,7 @@ dead_clear x valid level =
     let k = kept_at (record_at x.records) level x.head.count in
     let two : 2 ≤ k = keep_two x.text x.records x.head f level in
     record {
-      built_ins_lem = two;
+      built_ins = two;
       arm = arm_found k two;
       leaves = found_leaves x f level k two (keep_within (record_at x.records) level x.head.count);
     }

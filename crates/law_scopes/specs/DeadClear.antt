@@ -44,7 +44,7 @@ crate_set_level_of level x = level_arm_leaves (level_arm_of level x) level x
 -- At least the two built-ins stay: so the arm that clears everything is not taken, and what is left is what the contract of
 -- `set_level` says.
 pub record NeverCleared (level : ℕ) (x : NamespaceResolver) : Type 0 where
-  pub built_ins_lem : 2 ≤ kept_at (record_at x.records) level x.head.count
+  pub built_ins : 2 ≤ kept_at (record_at x.records) level x.head.count
   pub arm : level_arm_of level x ≡ clears_all → ⊥
   pub leaves : crate_set_level_of level x ≡ dropped_of level x
 
