@@ -24,7 +24,7 @@ use Rattle.lines.proofs.Pages.{page_lines, page_batch, page_length, page_text}
 use Rattle.lines.proofs.Batches.{Stand, stand_first, stand_next, stand_bound, run_most, never_wrong, read_count, read_left}
 use Rattle.attrs.specs.Output.{output_of, ComesNext, ToShow}
 use Rattle.attrs.proofs.Turn.{room, total_fits}
-use Rattle.attrs.proofs.Written.{fresh, Shown, shown_none, page_next, shown_more, shown_all, front_is, page_fits}
+use Rattle.attrs.proofs.Written.{fresh, Shown, shown_none, page_next, shown_within, shown_more, shown_all, front_is, page_fits}
 
 -- before a turn: `shown` answers are shown, and the reader stands behind them
 pub record Showing (s numbers text : List ℕ) (written shown : ℕ) (st : IterState) : Type 0 where
@@ -53,6 +53,10 @@ module _ (s : List ℕ) (place : Place) (starts ends hashes : List ℕ) (recorde
 
   abbrev page : List ℕ
   page = lines_of (run_of 256 s stood)
+
+  -- what is written is of the output
+  pub written_within : written ≤ length (output_of s)
+  written_within = shown_within s shown stood h.stand written h.done 256
 
   page_is : lines_by (batch_of s stood numbers) text ≡ page
   page_is =

@@ -9,6 +9,8 @@ use native.Mathlib.Nat.{eq-or-lt_of_le}
 use native.Mathlib.Omega.{arith}
 use lib.ListN.{length, take, drop, length-append}
 use lib.Seq.{take_at, take-append_seam, drop-append_seam}
+use Rattle.std.specs.Prelude.{Result, OnErr}
+use Rattle.std.proofs.Common.{Ok, Err}
 use Rattle.scan.specs.Bytes.{part, bytes_from, bytes}
 use Rattle.scan.specs.Lists.{over}
 use Rattle.tag_step.specs.declared.Answer.{Answer}
@@ -26,6 +28,11 @@ use Rattle.lines.proofs.Pages.{own_numbers}
 use Rattle.lines.proofs.Batches.{Stand, stand_last, run_most, run_full, run_short}
 use Rattle.attrs.specs.Count.{attrs_answers}
 use Rattle.attrs.specs.Output.{count_line, output_of, ComesNext, ToCount}
+
+-- What holds whatever an answer is holds where it is a refusal to write.
+pub on_refusal : {T E P : Type 0} (r : Result T E) → P → OnErr r P
+on_refusal (Ok x) p = tt
+on_refusal (Err e) p = p
 
 -- Lines.
 
@@ -90,12 +97,20 @@ module _ (s : List ℕ) (start total : ℕ) (to : ToCount s start total) where
     output_digits = output_word ∙ rw (append_assoc (decimal_of total) (bytes "\n") lines)
 
     module _ {digits : List ℕ} (are : digits ≡ decimal_of total) where
+      -- where the digits can't be written, the word is
+      pub within_digits : word ≤ length (output_of s)
+      within_digits = omega (arith, ap length output_digits, to.none, length-append (bytes "answers ") (decimal_of total ++ (bytes "\n" ++ lines)))
+
       pub digits_next : ComesNext s word digits
       digits_next = rw are (comes_next s (bytes "answers ") (decimal_of total) _ word to.short output_digits (omega (arith, to.none)))
 
       module _ {end : ℕ} (after-digits : end ≡ word + length digits) where
         output_feed : output_of s ≡ (bytes "answers " ++ decimal_of total) ++ (bytes "\n" ++ lines)
         output_feed = output_digits ∙ sym (append_assoc (bytes "answers ") (decimal_of total) (bytes "\n" ++ lines))
+
+        -- where the line feed can't be written, the digits are
+        pub within_feed : end ≤ length (output_of s)
+        within_feed = omega (arith, ap length output_feed, to.none, ap length are, length-append (bytes "answers " ++ decimal_of total) (bytes "\n" ++ lines), length-append (bytes "answers ") (decimal_of total))
 
         pub feed_next : ComesNext s end (bytes "\n")
         feed_next =
@@ -155,6 +170,12 @@ module _ (s : List ℕ) (n : ℕ) (st : IterState) (a : Stand s fresh n st) (wri
   page_next short =
       comes_next s (count ++ lines_of (run_of n s fresh)) page (lines_of answers_from_lem.0) written short output_from
       (omega (arith, length-append count (lines_of (run_of n s fresh))))
+
+  -- where it can't be written, no more is written than the output has
+  pub shown_within : written ≤ length (output_of s)
+  unfolding Shown
+  shown_within =
+      omega (arith, ap length output_from, length-append (count ++ lines_of (run_of n s fresh)) (page ++ lines_of answers_from_lem.0), length-append count (lines_of (run_of n s fresh)))
 
   -- and after it either more answers are shown, or all
   pub shown_more : Shown s (n + m) (written + length page)

@@ -1,15 +1,14 @@
 -- The laws of a record of a call: its lengths, what it counts, and what it passes.
-use Prim.Native.Nat.{ℕ, zero, suc, ◌+◌, ◌-◌, ◌≤◌, ◌<◌}
-use mathlib.Core.Path.{◌≡◌, refl, sym, ap, ◌∙◌}
+use Prim.Native.Nat.{ℕ, ◌+◌, ◌-◌, ◌≤◌, ◌<◌}
+use mathlib.Core.Path.{◌≡◌, refl, sym}
 use mathlib.Core.Bool.{Bool, true, false, ◌&&◌}
 use mathlib.Core.List.{List, [], ◌∷◌}
 use native.Mathlib.Omega.{arith}
-use lib.ListN.{length, take, drop, get_or, length-drop, get_or-eq_default}
-use lib.Dec.{eqb, ltb}
+use lib.ListN.{length, drop, get_or, get_or-eq_default}
+use lib.Dec.{ltb}
 use borrow.Author.Tests.{lt-ltb, le-ltb, ltb-false}
 use Rattle.scan.specs.First.{pick}
 use Rattle.scan.specs.Bytes.{part}
-use Rattle.scan.proofs.Lists.{to_end}
 use Rattle.replay.specs.Numbers.{two_at}
 use Rattle.replay.proofs.Turns.{Passes, passes_agrees, passes_differs, passes_cut, passes_pick}
 use Rattle.scope_table.specs.declared.NamespaceResolver.{NamespaceResolver}
@@ -23,9 +22,6 @@ use Rattle.replay_scopes.specs.Calls.{recorded_call_of, shown_in, changed_by, re
 use Rattle.replay_scopes.specs.Replay.{same_said, same_left, lengths_of, held_to, turn_of, turn_at, call_record_of}
 
 -- what is at least k and not k, and what is none of the first ten calls
-pub next : (k n : ℕ) → k ≤ n → (n ≡ k → ⊥) → k + 1 ≤ n
-next k n h other = omega arith
-
 pub last_call : (number : ℕ) → 10 ≤ number → BindingsOf ≡ recorded_call_of number
 unfolding recorded_call_of
 last_call number h = sym (get_or-eq_default (Fresh ∷ AddDefault ∷ AddNamed ∷ Push ∷ Pop ∷ SetLevel ∷ SetLimit ∷ ResolveAttribute ∷ ResolveElement ∷ Bindings ∷ []) BindingsOf h)

@@ -1,0 +1,29 @@
+-- `replay_scopes::same_said` meets its contract: each test decides, or leaves it to the next.
+use mathlib.Core.Path.{sym, ◌∙◌}
+use Rattle.scan.proofs.Bytes.{and_on, and_off}
+use Rattle.replay_scopes.specs.Replay.{same_said}
+use Rattle.replay_scopes.proofs.same_said.Goals as goal
+
+pub returns-then-not-is_two : goal.returns-then-not-is_two
+unfolding same_said
+returns-then-not-is_two c = and_off _ (sym c.is_two.ensures ∙ c.if-not-is_two.true)
+
+pub returns-then-not-is_two-2 : goal.returns-then-not-is_two-2
+unfolding same_said
+returns-then-not-is_two-2 c = and_on (sym c.is_two.ensures ∙ c.if-not-is_two.false) (and_off _ (sym c.is_two-2.ensures ∙ c.if-not-is_two-2.true))
+
+pub returns-then-not-is_two-3 : goal.returns-then-not-is_two-3
+unfolding same_said
+returns-then-not-is_two-3 c = and_on (sym c.is_two.ensures ∙ c.if-not-is_two.false) (and_on (sym c.is_two-2.ensures ∙ c.if-not-is_two-2.false) (and_off _ (sym c.is_two-3.ensures ∙ c.if-not-is_two-3.true)))
+
+pub returns-then-not-is_two-4 : goal.returns-then-not-is_two-4
+unfolding same_said
+returns-then-not-is_two-4 c = and_on (sym c.is_two.ensures ∙ c.if-not-is_two.false) (and_on (sym c.is_two-2.ensures ∙ c.if-not-is_two-2.false) (and_on (sym c.is_two-3.ensures ∙ c.if-not-is_two-3.false) (and_off _ (sym c.is_two-4.ensures ∙ c.if-not-is_two-4.true))))
+
+pub returns-then-not-is_two-5 : goal.returns-then-not-is_two-5
+unfolding same_said
+returns-then-not-is_two-5 c = and_on (sym c.is_two.ensures ∙ c.if-not-is_two.false) (and_on (sym c.is_two-2.ensures ∙ c.if-not-is_two-2.false) (and_on (sym c.is_two-3.ensures ∙ c.if-not-is_two-3.false) (and_on (sym c.is_two-4.ensures ∙ c.if-not-is_two-4.false) (and_off _ (sym c.is_two-5.ensures ∙ c.if-not-is_two-5.true)))))
+
+pub returns : goal.returns
+unfolding same_said
+returns c = and_on (sym c.is_two.ensures ∙ c.if-not-is_two.false) (and_on (sym c.is_two-2.ensures ∙ c.if-not-is_two-2.false) (and_on (sym c.is_two-3.ensures ∙ c.if-not-is_two-3.false) (and_on (sym c.is_two-4.ensures ∙ c.if-not-is_two-4.false) (and_on (sym c.is_two-5.ensures ∙ c.if-not-is_two-5.false) c.is_two-6.ensures))))
