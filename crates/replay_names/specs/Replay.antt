@@ -14,12 +14,12 @@ use Rattle.replay.specs.Numbers.{byte_at, two_at}
 use Rattle.replay.specs.Run.{replay_each}
 
 -- the index of the first colon, 65,535 for none
-abbrev pub numberOfColon : Colon → ℕ
-numberOfColon (At at) = at
-numberOfColon Nowhere = 65535
+abbrev pub number_of_colon : Colon → ℕ
+number_of_colon (At at) = at
+number_of_colon Nowhere = 65535
 
 abbrev pub colon_number : List ℕ → ℕ
-colon_number name = numberOfColon (colon_of name)
+colon_number name = number_of_colon (colon_of name)
 
 -- where the declared prefix starts, 0 for none
 unfoldable pub start_number : List ℕ → ℕ
