@@ -6,6 +6,7 @@ use mathlib.Core.Bool.{true, false}
 use mathlib.Core.List.{List}
 use native.Mathlib.Omega.{arith}
 use lib.ListN.{length, take}
+use Rattle.std.specs.Prelude.{Ok, Err}
 use Rattle.scan.specs.Lists.{over}
 use Rattle.scan.proofs.Lists.{over_length}
 use Rattle.tag_step.specs.declared.Place.{Place}
@@ -14,7 +15,8 @@ use Rattle.tag_step.specs.declared.IterState.{IterState}
 use Rattle.tag_step.specs.Next.{lent_state, no_keys, opened}
 use Rattle.tag_step.specs.Run.{run_of}
 use Rattle.tag_step.proofs.Good.{opened_sized}
-use Rattle.tag_batch.specs.declared.Batch.TheVariants.{Read, WrongTables}
+use Rattle.tag_batch.specs.declared.BatchRead.{BatchRead}
+use Rattle.tag_batch.specs.declared.WrongTables.{WrongTables}
 use Rattle.tag_batch.specs.declared.Why.{Why}
 use Rattle.tag_batch.specs.Batch.{answers_room, batched, batch_of, left_of}
 use Rattle.lines.specs.Lines.{lines_of}
@@ -92,32 +94,32 @@ module _ (s : List ℕ) (place : Place) (starts ends hashes : List ℕ) (recorde
       eb : batched p.left starts' ends' hashes' numbers' ≡ batch_of s stood numbers
       eb = page_batch s stood numbers text e
 
-      pub turn_never : p.left ≡ WrongTables → ⊥
+      pub turn_never : p.left ≡ Err (record {}) → ⊥
       turn_never = never_wrong s place false true starts ends hashes recorded numbers h.stand.sized eb
 
-      module _ {n : ℕ} {next : Place} {keys : ℕ} {why : Why} (r : p.left ≡ Read n next keys why) where
-        count_is : n ≡ length (run_of 256 s stood)
+      module _ {x : BatchRead} (r : p.left ≡ Ok x) where
+        count_is : x.answers ≡ length (run_of 256 s stood)
         count_is =
             read_count s place false true starts ends hashes recorded numbers h.stand.sized eb r
             ∙ ap (λ (m : ℕ). length (run_of m s stood)) h.room
 
-        pub turn_last : n < 256 → wrote ≡ length (output_of s)
+        pub turn_last : x.answers < 256 → wrote ≡ length (output_of s)
         turn_last few = wrote_is ∙ shown_all s shown stood h.stand written h.done 256 (omega (arith, count_is))
 
-        pub turn_adds : shown + n ≤ suc (length s)
+        pub turn_adds : shown + x.answers ≤ suc (length s)
         turn_adds = omega (arith, count_is, total_fits s fresh shown stood h.stand 256)
 
-        module _ (many : 256 ≤ n) where
-          full : n ≡ 256
+        module _ (many : 256 ≤ x.answers) where
+          full : x.answers ≡ 256
           full = omega (arith, count_is, run_most 256 s stood)
 
           stand_on : Stand s fresh (shown + 256) (left_of 256 s stood)
           stand_on = stand_next s fresh shown stood h.stand 256 (omega (arith, count_is, full))
 
-          pub turn_less : length s + 1 - (shown + n) < length s + 1 - shown
+          pub turn_less : length s + 1 - (shown + x.answers) < length s + 1 - shown
           turn_less = omega (arith, full, stand_bound s fresh (shown + 256) _ stand_on 0)
 
-          pub turn_more : length numbers' ≡ length numbers → Showing s numbers' made wrote (shown + n) (lent_state next false true starts' ends' hashes' keys)
+          pub turn_more : length numbers' ≡ length numbers → Showing s numbers' made wrote (shown + x.answers) (lent_state x.place false true starts' ends' hashes' x.count)
           turn_more size' =
               let left = read_left s place false true starts ends hashes recorded numbers h.stand.sized eb r ∙ ap (λ (m : ℕ). left_of m s stood) h.room in
               record {

@@ -13,7 +13,7 @@ use Rattle.std.specs.Prelude.{Result, OnErr}
 use Rattle.std.proofs.Common.{Ok, Err}
 use Rattle.scan.specs.Bytes.{part, bytes_from, bytes}
 use Rattle.scan.specs.Lists.{over}
-use Rattle.tag_step.specs.declared.Answer.{Answer}
+use Rattle.tag_step.specs.Answer.{Answer}
 use Rattle.tag_step.specs.declared.IterState.{IterState}
 use Rattle.tag_step.specs.Next.{opened}
 use Rattle.tag_step.specs.Numbers.{numbers_of}

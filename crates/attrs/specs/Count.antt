@@ -2,7 +2,7 @@
 use Rattle.std.specs.Prelude.{◌≡◌, true, false, List, ℕ, length}
 use Rattle.tag_keys.specs.Keys.{capacity}
 use Rattle.tag_step.specs.declared.Place.TheVariants.{Next}
-use Rattle.tag_step.specs.declared.Answer.{Answer}
+use Rattle.tag_step.specs.Answer.{Answer}
 use Rattle.tag_step.specs.declared.IterState.{IterState}
 use Rattle.tag_step.specs.Next.{opened, lent_state}
 use Rattle.tag_step.specs.Run.{answers_of}

@@ -7,92 +7,77 @@
 // runs the same code with the hash cut to 8 bits, and the answers are the same.
 #![tactic(auto)]
 
+use lines::Paged;
 use std::io;
 use std::io::Read;
-use tag_batch::Batch;
 use tag_keys::CAPACITY;
 use tag_step::{Place, Standing};
 
-fn say(rt: &impl Print, n: usize) -> io::Result<()> {
-    print!(rt; " {n}")
+// The memory that the tag is read in: the tables of recorded keys, the answers in numbers, and their lines.
+#[derive(Drop)]
+struct Memory {
+    starts: [usize; CAPACITY],
+    ends: [usize; CAPACITY],
+    hashes: [u32; CAPACITY],
+    numbers: [usize; 320],
+    text: [u8; 6848],
 }
 
-fn say_hash(rt: &impl Print, hash: u32) -> io::Result<()> {
-    say(rt, hash as usize)
-}
-
-// The first `count` keys of the tables, as far as these go.
-fn show_kept<'a>(
-    rt: &impl Print,
-    starts: &'a [usize],
-    ends: &'a [usize],
-    hashes: &'a [u32],
-    count: usize,
-) -> io::Result<()> {
-    let mut i = 0;
-    while i < count {
-        if i >= starts.len() {
-            return Ok(());
+impl Memory {
+    fn new() -> Memory {
+        Memory {
+            starts: [0; CAPACITY],
+            ends: [0; CAPACITY],
+            hashes: [0; CAPACITY],
+            numbers: [0; 320],
+            text: [0; 6848],
         }
-        if i >= ends.len() {
-            return Ok(());
-        }
-        if i >= hashes.len() {
-            return Ok(());
-        }
-        print!(rt; "K")?;
-        say(rt, starts[i])?;
-        say(rt, ends[i])?;
-        say_hash(rt, hashes[i])?;
-        println!(rt)?;
-        i += 1;
     }
-    Ok(())
+
+    // Reads the tag: its lines then stand at the front of the text, as many bytes as it answers.
+    fn read(&mut self, tag: &[u8]) -> Paged {
+        let at = Standing {
+            place: Place::Next(0),
+            html: false,
+            checks: true,
+            count: 0,
+        };
+        lines::page(
+            tag,
+            &mut self.starts,
+            &mut self.ends,
+            &mut self.hashes,
+            at,
+            &mut self.numbers,
+            &mut self.text,
+        )
+    }
+
+    // The first `count` keys of the tables.
+    fn show_kept(&self, rt: &impl Print, count: usize) -> io::Result<()> {
+        let bounds = self.starts.iter().zip(&self.ends);
+        for ((start, end), hash) in bounds.zip(&self.hashes).take(count) {
+            println!(rt; "K {start} {end} {hash}")?;
+        }
+        Ok(())
+    }
 }
 
-fn show<'a>(
-    rt: &impl Print,
-    tag: &[u8],
-    starts: &'a mut [usize],
-    ends: &'a mut [usize],
-    hashes: &'a mut [u32],
-    numbers: &mut [usize],
-    text: &mut [u8],
-) -> io::Result<()> {
-    let at = Standing {
-        place: Place::Next(0),
-        html: false,
-        checks: true,
-        count: 0,
-    };
-    let page = lines::page(tag, starts, ends, hashes, at, numbers, text);
-    let length = page.length;
-    if length <= text.len() {
-        rt.write_all(&text[..length])?;
+fn show(rt: &impl Print, tag: &[u8]) -> io::Result<()> {
+    let mut memory = Memory::new();
+    let page = memory.read(tag);
+    if let Some(lines) = memory.text.get(..page.length) {
+        rt.write_all(lines)?;
     }
-    let left = page.left;
-    let Batch::Read(_, _, count, _) = left else {
+    let Ok(read) = page.left else {
         return Ok(());
     };
-    show_kept(rt, starts, ends, hashes, count)
+    memory.show_kept(rt, read.count)
 }
 
 fn main(rt: HostRuntime) -> io::Result<()> {
     let mut buffer = [0u8; 65536];
     let count = io::copy(&mut rt.stdin().take(65536), &mut &mut buffer[..])?;
     let n = buffer.len().min(count as usize);
-    let mut starts = [0usize; CAPACITY];
-    let mut ends = [0usize; CAPACITY];
-    let mut hashes = [0u32; CAPACITY];
-    let mut numbers = [0usize; 320];
-    let mut text = [0u8; 6848];
-    show(
-        &rt,
-        &buffer[..n],
-        &mut starts,
-        &mut ends,
-        &mut hashes,
-        &mut numbers,
-        &mut text,
-    )
+    show(&rt, &buffer[..n])
 }

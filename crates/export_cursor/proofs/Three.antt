@@ -1,23 +1,11 @@
 -- The numbers of an iterator in lent memory, written one after another.
 use Prim.Native.Nat.{ℕ}
-use mathlib.Core.Path.{◌≡◌, sym}
+use mathlib.Core.Path.{◌≡◌}
 use mathlib.Core.Bool.{true, false}
 use mathlib.Core.List.{List}
 use lib.ListN.{set}
-use lib.Dec.{eqb}
-use borrow.Author.Tests.{eq-eqb, ne_eqb}
 use Rattle.tag_step.specs.declared.Place.{Place}
 use Rattle.export_cursor.specs.Cursor.{kind_of, position_of, same_place, settled_of}
-
--- two places are the same
-module _ (p q : Place) (a b : ℕ) (ka : a ≡ kind_of p) (kb : b ≡ kind_of q) where
-  pub kinds_differ : (a ≡ b → ⊥) → false ≡ same_place p q
-  unfolding same_place
-  kinds_differ n = rw (sym ka, sym kb, ne_eqb a b n)
-
-  pub kinds_same : (c d : ℕ) → a ≡ b → c ≡ position_of p → d ≡ position_of q → eqb c d ≡ same_place p q
-  unfolding same_place
-  kinds_same c d e x y = rw (sym ka, sym kb, eq-eqb a b e, sym x, sym y)
 
 -- the numbers that are left: the place stays, or is another
 module _ (state : List ℕ) (before after : Place) (recorded : ℕ) where

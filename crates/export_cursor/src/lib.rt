@@ -9,26 +9,22 @@ ghost use Rattle.export_cursor.specs.Cursor.{place_from, kind_of, position_of, s
 use tag_step::Place;
 
 // A place from its kind and its position, in a tag that ends at `end`.
+// The kind is a number of the C interface, and each number has a place, so this can't fail and is no TryFrom.
 #[tactic(auto, unfolding(crate::specs::Cursor::place_from))]
 pub fn place_from(end: usize, kind: usize, position: usize) -> Place
     ensures { result ≡ place_from end kind position }
 {
-    if kind == 0 {
-        return Place::Done;
+    match kind {
+        0 => Place::Done,
+        1 => Place::Next(position),
+        2 => Place::SkipValue(position),
+        3 => Place::SkipEqValue(position),
+        _ => Place::SkipValue(end),
     }
-    if kind == 1 {
-        return Place::Next(position);
-    }
-    if kind == 2 {
-        return Place::SkipValue(position);
-    }
-    if kind == 3 {
-        return Place::SkipEqValue(position);
-    }
-    Place::SkipValue(end)
 }
 
 // The kind of a place.
+// It is a number of the C interface.
 #[tactic(auto, unfolding(crate::specs::Cursor::kind_of))]
 pub fn kind_of(place: Place) -> usize
     ensures { result ≡ kind_of place }
@@ -48,20 +44,16 @@ pub fn position_of(place: Place) -> usize
 {
     match place {
         Place::Done => 0,
-        Place::Next(o) => o,
-        Place::SkipValue(o) => o,
-        Place::SkipEqValue(o) => o,
+        Place::Next(o) | Place::SkipValue(o) | Place::SkipEqValue(o) => o,
     }
 }
 
 // Whether two places are the same.
+#[tactic(auto, unfolding(crate::specs::Cursor::same_place))]
 pub fn same_place(p: Place, q: Place) -> bool
     ensures { result ≡ same_place p q }
 {
-    if kind_of(p) != kind_of(q) {
-        return false;
-    }
-    position_of(p) == position_of(q)
+    kind_of(p) == kind_of(q) && position_of(p) == position_of(q)
 }
 
 // Leaves a place and the number of recorded keys in the caller's four numbers, as the next call takes them; `before` is the
@@ -70,11 +62,10 @@ pub fn settle(state: &mut [usize; 4], before: Place, after: Place, recorded: usi
     ensures { state.new ≡ settled_of state.old before after recorded }
 {
     state[2] = recorded;
-    if same_place(before, after) {
-        return;
+    if !same_place(before, after) {
+        let kind = kind_of(after);
+        let position = position_of(after);
+        state[0] = kind;
+        state[1] = position;
     }
-    let kind = kind_of(after);
-    let position = position_of(after);
-    state[0] = kind;
-    state[1] = position;
 }

@@ -2,12 +2,11 @@
 // is lent on to the crate that has the rule, and answers by numbers; none asks anything of its caller.
 #![tactic(auto)]
 
-ghost use Rattle.std.specs.Prelude.{◌≡◌};
+ghost use Rattle.std.specs.Prelude.{◌≡◌, Err};
 ghost use Rattle.scope_table.specs.Lent.{lent};
 ghost use Rattle.scope_lookup.specs.Lookup.{resolved_numbers, resolve_of};
-ghost use Rattle.scope_lookup.specs.declared.Resolved.TheVariants as Found;
+ghost use Rattle.scope_table.specs.declared.FormError.TheVariants as Why;
 ghost use Rattle.scope_listing.specs.Listing.{listing, bindings_of, bindings_at_of};
-ghost use Rattle.scope_listing.specs.declared.Listed.TheVariants as Shown;
 ghost use Rattle.export_memory.specs.Boundary.{head_in, asked, ask_in};
 ghost use Rattle.export_lookups.specs.Listings.{listed_by};
 
@@ -24,7 +23,7 @@ pub fn mz_resolve<'t, 'n>(
     detail: &mut [usize; 2],
 ) -> usize
     ensures { asked result detail.new
-        ≡ ask_in (resolved_numbers (lent Found.WrongLength (resolve_of name.now use_default) text.now records.now (head_in head.now)))
+        ≡ ask_in (resolved_numbers (lent (Err Why.WrongLength) (resolve_of name.now use_default) text.now records.now (head_in head.now)))
         detail.old }
 {
     let h = export_memory::head_from(head);
@@ -56,7 +55,7 @@ pub fn mz_binding<'t>(
     detail: &mut [usize; 5],
 ) -> usize
     ensures { asked result detail.new
-        ≡ listed_by (lent (listing Shown.WrongLength place) (bindings_of place) text.now records.now (head_in head.now))
+        ≡ listed_by (lent (listing (Err Why.WrongLength) place) (bindings_of place) text.now records.now (head_in head.now))
         detail.old }
 {
     let h = export_memory::head_from(head);
@@ -73,7 +72,7 @@ pub fn mz_binding_of<'t>(
     detail: &mut [usize; 5],
 ) -> usize
     ensures { asked result detail.new
-        ≡ listed_by (lent (listing Shown.WrongLength place) (bindings_at_of level place) text.now records.now (head_in head.now))
+        ≡ listed_by (lent (listing (Err Why.WrongLength) place) (bindings_at_of level place) text.now records.now (head_in head.now))
         detail.old }
 {
     let h = export_memory::head_from(head);

@@ -2,12 +2,11 @@
 // same names, with the same contracts. A slice passes as pointer and length, an array of fixed length as its pointer alone.
 #![tactic(auto)]
 
-ghost use Rattle.std.specs.Prelude.{◌≡◌};
+ghost use Rattle.std.specs.Prelude.{◌≡◌, Err};
 ghost use Rattle.scope_table.specs.Lent.{lent};
 ghost use Rattle.scope_lookup.specs.Lookup.{resolved_numbers, resolve_of};
-ghost use Rattle.scope_lookup.specs.declared.Resolved.TheVariants as Found;
+ghost use Rattle.scope_table.specs.declared.FormError.TheVariants as Why;
 ghost use Rattle.scope_listing.specs.Listing.{listing, bindings_of, bindings_at_of};
-ghost use Rattle.scope_listing.specs.declared.Listed.TheVariants as Shown;
 ghost use Rattle.export_memory.specs.Boundary.{head_in, asked, ask_in};
 ghost use Rattle.export_lookups.specs.Listings.{listed_by};
 
@@ -22,7 +21,7 @@ pub extern "C" fn mz_resolve<'t, 'n>(
     detail: &mut [usize; 2],
 ) -> usize
     ensures { asked result detail.new
-        ≡ ask_in (resolved_numbers (lent Found.WrongLength (resolve_of name.now use_default) text.now records.now (head_in head.now)))
+        ≡ ask_in (resolved_numbers (lent (Err Why.WrongLength) (resolve_of name.now use_default) text.now records.now (head_in head.now)))
         detail.old }
 {
     export_lookups::mz_resolve(text, records, head, name, use_default, detail)
@@ -38,7 +37,7 @@ pub extern "C" fn mz_binding<'t>(
     detail: &mut [usize; 5],
 ) -> usize
     ensures { asked result detail.new
-        ≡ listed_by (lent (listing Shown.WrongLength place) (bindings_of place) text.now records.now (head_in head.now))
+        ≡ listed_by (lent (listing (Err Why.WrongLength) place) (bindings_of place) text.now records.now (head_in head.now))
         detail.old }
 {
     export_lookups::mz_binding(text, records, head, place, detail)
@@ -55,7 +54,7 @@ pub extern "C" fn mz_binding_of<'t>(
     detail: &mut [usize; 5],
 ) -> usize
     ensures { asked result detail.new
-        ≡ listed_by (lent (listing Shown.WrongLength place) (bindings_at_of level place) text.now records.now (head_in head.now))
+        ≡ listed_by (lent (listing (Err Why.WrongLength) place) (bindings_at_of level place) text.now records.now (head_in head.now))
         detail.old }
 {
     export_lookups::mz_binding_of(text, records, head, level, place, detail)

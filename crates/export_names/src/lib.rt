@@ -5,9 +5,10 @@
 ghost use Rattle.std.specs.Prelude.{◌≡◌};
 ghost use Rattle.export_names.specs.Names.{alike_of, names, many_in};
 
-use scope_table::Form;
+use scope_table::FormError;
 
 // Whether there are as many starts as ends, and as many places for each part of an answer.
+#[tactic(auto, unfolding(crate::specs::Names::alike_of))]
 fn alike<'n>(
     from: &'n [usize],
     to: &'n [usize],
@@ -17,16 +18,10 @@ fn alike<'n>(
 ) -> bool
     ensures { result ≡ alike_of from.now to.now kinds.now begins.now ends.now }
 {
-    if to.len() != from.len() {
-        return false;
-    }
-    if kinds.len() != from.len() {
-        return false;
-    }
-    if begins.len() != from.len() {
-        return false;
-    }
-    ends.len() == from.len()
+    to.len() == from.len()
+        && kinds.len() == from.len()
+        && begins.len() == from.len()
+        && ends.len() == from.len()
 }
 
 // The names of a tag, all by one test of the resolver. Name k is the tag's bytes from `from[k]` up to `to[k]`, and the first
@@ -49,24 +44,20 @@ pub fn mz_resolve_all<'t, 'n>(
         text.now records.now head.now }
 {
     if !alike(from, to, kinds, begins, ends) {
-        let wrong = Form::WrongLength;
-        return wrong.number();
+        return scope_table::form_number(Err(FormError::WrongLength));
     }
     let h = export_memory::head_from(head);
     let form = scope_table::form_in(text, records, h);
-    let Form::Good = form else {
-        return form.number();
+    let Ok(()) = form else {
+        return scope_table::form_number(form);
     };
-    let count = h.count;
-    let mut i = 0;
-    while i < from.len() {
+    for i in 0..from.len() {
         let name = scan::inside(tag, from[i], to[i]);
-        let found = scope_lookup::name_among(text, records, count, name, i < elements);
-        let told = scope_lookup::resolved_numbers(found);
+        let found = scope_lookup::name_among(text, records, h.count, name, i < elements);
+        let told = scope_lookup::resolved_numbers(Ok(found));
         kinds[i] = told.number;
         begins[i] = told.first;
         ends[i] = told.second;
-        i += 1;
     }
     0
 }

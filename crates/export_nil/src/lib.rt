@@ -13,7 +13,7 @@ use tag_step::Standing;
 pub fn mz_as_bool(value: &[u8]) -> usize
     ensures { result ≡ truth_number (truth_of value.now) }
 {
-    tag_parts::as_bool(value).number()
+    tag_parts::truth_number(tag_parts::as_bool(value))
 }
 
 // Whether an attribute from here on says that the element is nil: `scope_nil::has_nil_in`. The resolver is lent as to
@@ -38,14 +38,13 @@ pub fn mz_has_nil<'k, 't>(
     let h = export_memory::head_from(head);
     let place = export_cursor::place_from(tag.len(), state[0], state[1]);
     let at = Standing {
-        place: place,
-        html: html,
-        checks: checks,
+        place,
+        html,
+        checks,
         count: state[2],
     };
     let out = scope_nil::has_nil_in(tag, key_starts, key_ends, key_hashes, at, text, records, h);
     let left = out.place;
     export_cursor::settle(state, place, left, out.count);
-    let answer = out.answer;
-    answer.number()
+    scope_nil::nil_number(out.answer)
 }

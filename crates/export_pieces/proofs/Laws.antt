@@ -11,31 +11,29 @@ use Rattle.tag_batch.specs.Batch.{why_number}
 use Rattle.tag_phase.specs.declared.Phase.{Phase}
 use Rattle.tag_phase.specs.declared.Phase.TheVariants.{Begin}
 use Rattle.tag_pieces.specs.declared.Cursor.{Cursor}
-use Rattle.tag_pieces.specs.declared.Fed.{Fed}
-use Rattle.tag_pieces.specs.declared.Fed.TheVariants.{Accepted, Finished, TooLong, LendMore}
+use Rattle.std.specs.Prelude.{Result, Ok, Err}
+use Rattle.tag_pieces.specs.declared.FeedError.{FeedError}
 use Rattle.tag_pieces.specs.Reader.{hold, fed_number, is_accepted, grown, piece_in}
-use Rattle.tag_takes.specs.declared.Took.{Took}
-use Rattle.tag_takes.specs.declared.Took.TheVariants.{Read, WrongLength}
-use Rattle.tag_takes.specs.Takes.{Some, Wrong, TakeEnd, take_end, lent_reader, take_all_of}
+use Rattle.tag_takes.specs.declared.TakesRead.{TakesRead}
+use Rattle.tag_takes.specs.declared.WrongLength.{WrongLength}
+use Rattle.tag_takes.specs.Takes.{TakeEnd, take_end, lent_reader, take_all_of}
 use Rattle.tag_takes.specs.Takes as Takes
 use Rattle.export_cursor.specs.Cursor.{settled_of}
 use Rattle.export_pieces.specs.Pieces.{phase_kind, phase_start, phase_end, phase_put, place_in, cursor_in, piece_end, reader_fed, piece_shown, mz_piece_of, finish_end, mz_finish_of, NONE, numbers_left, reader_by, answers_end, take_shown, mz_take_of}
 
 -- A piece.
 
-accepted_none : (fed : Fed) → is_accepted fed ≡ true → fed_number fed ≡ 0
+accepted_none : (fed : Result (Unit {0}) FeedError) → is_accepted fed ≡ true → fed_number fed ≡ 0
 unfolding is_accepted fed_number
-accepted_none Accepted e = refl
-accepted_none Finished e = absurd (false≢true e)
-accepted_none TooLong e = absurd (false≢true e)
-accepted_none LendMore e = absurd (false≢true e)
+accepted_none (Ok u) e = refl
+accepted_none (Err x) e = absurd (false≢true e)
 
 module _ (text reader p : List ℕ) where
   pub piece_long : hold < length text → piece_end 99 text reader ≡ mz_piece_of text reader p
   unfolding mz_piece_of
   piece_long h = rw (lt-leb (length text) hold h)
 
-  module _ (h : length text ≤ hold) (at : Cursor) (stands : at ≡ cursor_in reader false false) (fed : Fed) (text' : List ℕ) (held : ℕ) (phase : Phase)
+  module _ (h : length text ≤ hold) (at : Cursor) (stands : at ≡ cursor_in reader false false) (fed : Result (Unit {0}) FeedError) (text' : List ℕ) (held : ℕ) (phase : Phase)
       (is : grown fed text' held phase ≡ piece_in text at.held at.finished at.place at.phase p) where
     shown : piece_shown reader (grown fed text' held phase) ≡ mz_piece_of text reader p
     unfolding mz_piece_of cursor_in
@@ -78,21 +76,21 @@ module _ (reader : List ℕ) (before after : Place) (count held n : ℕ) (why : 
 
 -- Answers.
 
-module _ (text starts ends hashes reader out : List ℕ) (html checks : Bool) (at : Cursor) (stands : at ≡ cursor_in reader html checks) (starts' ends' hashes' out' : List ℕ) (r : Took)
+module _ (text starts ends hashes reader out : List ℕ) (html checks : Bool) (at : Cursor) (stands : at ≡ cursor_in reader html checks) (starts' ends' hashes' out' : List ℕ) (r : Result TakesRead WrongLength)
     (is : Takes.took_end r at text starts' ends' hashes' out' ≡ take_all_of (lent_reader at text starts ends hashes) out) where
   across : take_shown reader (place_in reader) (length out) (Takes.took_end r at text starts' ends' hashes' out') ≡ mz_take_of text starts ends hashes reader out html checks
   unfolding mz_take_of
   across = ap (take_shown reader (place_in reader) (length out)) (is ∙ rw stands)
 
-  pub take_wrong : r ≡ WrongLength → answers_end NONE starts' ends' hashes' reader out' ≡ mz_take_of text starts ends hashes reader out html checks
+  pub take_wrong : r ≡ Err (record {}) → answers_end NONE starts' ends' hashes' reader out' ≡ mz_take_of text starts ends hashes reader out html checks
   unfolding reader_by
   take_wrong e = rw e at across
 
-  module _ (n : ℕ) (left : Cursor) (why : Why) (e : r ≡ Read n left why) where
-    pub take_no_room : length out < 5 → answers_end n starts' ends' hashes' reader out' ≡ mz_take_of text starts ends hashes reader out html checks
+  module _ (x : TakesRead) (e : r ≡ Ok x) where
+    pub take_no_room : length out < 5 → answers_end x.answers starts' ends' hashes' reader out' ≡ mz_take_of text starts ends hashes reader out html checks
     unfolding reader_by
     take_no_room h = rw (e, lt-ltb (length out) 5 h) at across
 
-    pub take_leaves : 5 ≤ length out → (put : List ℕ) → put ≡ numbers_left reader at.place left.place left.count left.held n why → answers_end n starts' ends' hashes' put out' ≡ mz_take_of text starts ends hashes reader out html checks
+    pub take_leaves : 5 ≤ length out → (put : List ℕ) → put ≡ numbers_left reader at.place x.cursor.place x.cursor.count x.cursor.held x.answers x.why → answers_end x.answers starts' ends' hashes' put out' ≡ mz_take_of text starts ends hashes reader out html checks
     unfolding reader_by cursor_in
     take_leaves h put p = rw (p, stands) (rw (e, le-ltb (length out) 5 h) at across)

@@ -1,7 +1,7 @@
 -- A reader of a tag in pieces across the boundary: lent text, three lent key tables, and nine lent numbers: the kind of the place,
 -- its position, the recorded keys, why it stopped, the bytes held, whether it is finished, the phase, and the bounds of the key
 -- that is under way.
-use Rattle.std.specs.Prelude.{ℕ, Bool, not, List, length, get_or, set, eqb, ltb, leb}
+use Rattle.std.specs.Prelude.{ℕ, Bool, not, List, length, get_or, set, eqb, ltb, leb, None, Some}
 use Rattle.scan.specs.First.{pick}
 use Rattle.tag_step.specs.declared.Place.{Place}
 use Rattle.tag_step.specs.Read.{span}
@@ -12,7 +12,7 @@ use Rattle.tag_phase.specs.declared.Phase.TheVariants.{Begin, Due, InSkip, InSpa
 use Rattle.tag_pieces.specs.declared.Cursor.{Cursor}
 use Rattle.tag_pieces.specs.declared.Reader.{Reader}
 use Rattle.tag_pieces.specs.Reader.{hold, fed_number, is_accepted, Grown, piece_in}
-use Rattle.tag_takes.specs.Takes.{Counted, Some, Wrong, TakeEnd, lent_reader, take_all_of}
+use Rattle.tag_takes.specs.Takes.{Counted, TakeEnd, lent_reader, take_all_of}
 use Rattle.export_cursor.specs.Cursor.{place_from, settled_of}
 
 -- A phase as its number and the bounds that it has. Any other number than these is read as 0, from where everything is looked at.
@@ -148,8 +148,8 @@ abbrev pub NONE : ℕ
 NONE = 18446744073709551615
 
 abbrev pub count_number : Counted → ℕ
-count_number (Some n why) = n
-count_number Wrong = NONE
+count_number (Some (n, why)) = n
+count_number None = NONE
 
 -- The nine numbers after n answers: the place, the recorded keys and the bytes held that are left, and why there are no more. An
 -- answer starts the phase anew.
@@ -162,8 +162,8 @@ numbers_left reader before after count held n why =
 
 -- With room for no answer nothing is written, nor where a length is wrong.
 unfoldable pub reader_by : List ℕ → Place → (room : ℕ) → Reader → Counted → List ℕ
-reader_by reader before room left (Some n why) = pick (ltb room 5) reader (numbers_left reader before left.place left.count left.held n why)
-reader_by reader before room left Wrong = reader
+reader_by reader before room left (Some (n, why)) = pick (ltb room 5) reader (numbers_left reader before left.place left.count left.held n why)
+reader_by reader before room left None = reader
 
 abbrev pub take_shown : List ℕ → Place → (room : ℕ) → TakeEnd → AnswersEnd
 take_shown reader before room x =

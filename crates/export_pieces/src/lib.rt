@@ -14,47 +14,29 @@ use tag_batch::Why;
 use tag_phase::Phase;
 use tag_pieces::Cursor;
 use tag_step::{Place, Span};
-use tag_takes::Took;
 
 // No number of answers.
-const NONE: usize = 18446744073709551615;
+const NONE: usize = usize::MAX;
 
 // A phase from its number and the bounds.
+// The kind is a number of the C interface, and each number has a phase, so this can't fail and is no TryFrom.
+#[tactic(auto, unfolding(crate::specs::Pieces::phase_from))]
 fn phase_from(kind: usize, start: usize, end: usize) -> Phase
     ensures { result ≡ phase_from kind start end }
 {
-    let key = Span {
-        start: start,
-        end: end,
-    };
-    if kind == 1 {
-        return Phase::Due;
+    let key = Span { start, end };
+    match kind {
+        1 => Phase::Due,
+        2 => Phase::InSkip,
+        3 => Phase::InSpace,
+        4 => Phase::InKey(start),
+        5 => Phase::AfterKey(key),
+        6 => Phase::BeforeValue(key),
+        7 => Phase::InDouble(key),
+        8 => Phase::InSingle(key),
+        9 => Phase::InUnquoted(key),
+        _ => Phase::Begin,
     }
-    if kind == 2 {
-        return Phase::InSkip;
-    }
-    if kind == 3 {
-        return Phase::InSpace;
-    }
-    if kind == 4 {
-        return Phase::InKey(start);
-    }
-    if kind == 5 {
-        return Phase::AfterKey(key);
-    }
-    if kind == 6 {
-        return Phase::BeforeValue(key);
-    }
-    if kind == 7 {
-        return Phase::InDouble(key);
-    }
-    if kind == 8 {
-        return Phase::InSingle(key);
-    }
-    if kind == 9 {
-        return Phase::InUnquoted(key);
-    }
-    Phase::Begin
 }
 
 // The number of a phase.
@@ -82,16 +64,13 @@ fn phase_start(phase: Phase) -> usize
     ensures { result ≡ phase_start phase }
 {
     match phase {
-        Phase::Begin => 0,
-        Phase::Due => 0,
-        Phase::InSkip => 0,
-        Phase::InSpace => 0,
+        Phase::Begin | Phase::Due | Phase::InSkip | Phase::InSpace => 0,
         Phase::InKey(start) => start,
-        Phase::AfterKey(key) => key.start,
-        Phase::BeforeValue(key) => key.start,
-        Phase::InDouble(key) => key.start,
-        Phase::InSingle(key) => key.start,
-        Phase::InUnquoted(key) => key.start,
+        Phase::AfterKey(key)
+        | Phase::BeforeValue(key)
+        | Phase::InDouble(key)
+        | Phase::InSingle(key)
+        | Phase::InUnquoted(key) => key.start,
     }
 }
 
@@ -101,16 +80,12 @@ fn phase_end(phase: Phase) -> usize
     ensures { result ≡ phase_end phase }
 {
     match phase {
-        Phase::Begin => 0,
-        Phase::Due => 0,
-        Phase::InSkip => 0,
-        Phase::InSpace => 0,
-        Phase::InKey(_) => 0,
-        Phase::AfterKey(key) => key.end,
-        Phase::BeforeValue(key) => key.end,
-        Phase::InDouble(key) => key.end,
-        Phase::InSingle(key) => key.end,
-        Phase::InUnquoted(key) => key.end,
+        Phase::Begin | Phase::Due | Phase::InSkip | Phase::InSpace | Phase::InKey(_) => 0,
+        Phase::AfterKey(key)
+        | Phase::BeforeValue(key)
+        | Phase::InDouble(key)
+        | Phase::InSingle(key)
+        | Phase::InUnquoted(key) => key.end,
     }
 }
 
@@ -118,12 +93,9 @@ fn phase_end(phase: Phase) -> usize
 fn put_phase(reader: &mut [usize; 9], phase: Phase)
     ensures { reader.new ≡ phase_put reader.old (phase_kind phase) (phase_start phase) (phase_end phase) }
 {
-    let kind = phase_kind(phase);
-    let start = phase_start(phase);
-    let end = phase_end(phase);
-    reader[6] = kind;
-    reader[7] = start;
-    reader[8] = end;
+    reader[6] = phase_kind(phase);
+    reader[7] = phase_start(phase);
+    reader[8] = phase_end(phase);
 }
 
 // The reader that the numbers are.
@@ -133,13 +105,13 @@ fn cursor_in(reader: &[usize; 9], html: bool, checks: bool) -> Cursor
     let place = export_cursor::place_from(reader[4], reader[0], reader[1]);
     let phase = phase_from(reader[6], reader[7], reader[8]);
     Cursor {
-        place: place,
-        html: html,
-        checks: checks,
+        place,
+        html,
+        checks,
         count: reader[2],
         held: reader[4],
         finished: reader[5] != 0,
-        phase: phase,
+        phase,
     }
 }
 
@@ -154,14 +126,12 @@ pub fn mz_piece(text: &mut [u8], reader: &mut [usize; 9], piece: &[u8]) -> usize
     }
     let at = cursor_in(reader, false, false);
     let grown = tag_pieces::piece_in(text, at, piece);
-    let fed = grown.fed;
-    let phase = grown.phase;
-    if !tag_pieces::accepted(fed) {
-        return fed.number();
+    if !tag_pieces::accepted(grown.fed) {
+        return tag_pieces::fed_number(grown.fed);
     }
     reader[3] = 0;
     reader[4] = grown.held;
-    put_phase(reader, phase);
+    put_phase(reader, grown.phase);
     0
 }
 
@@ -186,24 +156,20 @@ fn settle_place(reader: &mut [usize; 9], before: Place, after: Place, recorded: 
     if export_cursor::same_place(before, after) {
         return;
     }
-    let kind = export_cursor::kind_of(after);
-    let position = export_cursor::position_of(after);
-    reader[0] = kind;
-    reader[1] = position;
+    reader[0] = export_cursor::kind_of(after);
+    reader[1] = export_cursor::position_of(after);
 }
 
 // Leaves all that a call has left of the reader.
 fn settle(reader: &mut [usize; 9], before: Place, left: Cursor, n: usize, why: Why)
     ensures { reader.new ≡ numbers_left reader.old before left.place left.count left.held n why }
 {
-    let after = left.place;
-    settle_place(reader, before, after, left.count);
+    settle_place(reader, before, left.place, left.count);
     reader[3] = why.number();
     reader[4] = left.held;
-    if n == 0 {
-        return;
+    if n > 0 {
+        put_phase(reader, Phase::Begin);
     }
-    put_phase(reader, Phase::Begin);
 }
 
 // As many answers as are ready and as `out` holds, five numbers each: `tag_takes::take_in`. The result is the number of answers, or
@@ -227,12 +193,12 @@ pub fn mz_take<'a>(
     let before = at.place;
     let room = out.len();
     let took = tag_takes::take_in(text, starts, ends, hashes, at, out);
-    let Took::Read(n, left, why) = took else {
+    let Ok(read) = took else {
         return NONE;
     };
     if room < 5 {
-        return n;
+        return read.answers;
     }
-    settle(reader, before, left, n, why);
-    n
+    settle(reader, before, read.cursor, read.answers, read.why);
+    read.answers
 }

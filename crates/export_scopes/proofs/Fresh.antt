@@ -1,32 +1,15 @@
 -- The two ways in which `mz_fresh` comes back, each as `fresh_by` says it.
 use Prim.Native.Nat.{ℕ}
-use mathlib.Core.Path.{◌≡◌, refl, ap}
+use mathlib.Core.Path.{◌≡◌, ap}
 use mathlib.Core.Bool.{true, false}
 use mathlib.Core.List.{List, []}
 use Rattle.scan.specs.First.{pick}
 use Rattle.scope_table.specs.Table.{head_of}
 use Rattle.scope_table.specs.Answer.{change_numbers, is_done}
 use Rattle.scope_table.specs.Lent.{Given, given, fresh_in}
-use Rattle.scope_table.specs.declared.NamespaceResult.{NamespaceResult}
-use Rattle.scope_table.specs.declared.NamespaceResult.TheVariants.{Done, InvalidXmlPrefixBind, InvalidXmlnsPrefixBind, InvalidPrefixForXml, InvalidPrefixForXmlns, TooManyBindings, TooDeeplyNested, BindingTableFull, TextFull, BadResolver, LendMore, WrongLength}
 use Rattle.scope_table.specs.declared.Outcome.{Outcome}
 use Rattle.export_memory.specs.Boundary.{head_after, code_of, Crossed, crossed}
 use Rattle.export_scopes.specs.Fresh.{fresh_by}
-
--- what is no `Done` is a refusal
-pub not_done : (a : NamespaceResult) → (a ≡ Done → ⊥) → is_done a ≡ false
-not_done Done n = absurd (n refl)
-not_done (InvalidXmlPrefixBind a e) n = refl
-not_done (InvalidXmlnsPrefixBind a e) n = refl
-not_done (InvalidPrefixForXml a e) n = refl
-not_done (InvalidPrefixForXmlns a e) n = refl
-not_done (TooManyBindings limit) n = refl
-not_done (TooDeeplyNested depth) n = refl
-not_done BindingTableFull n = refl
-not_done TextFull n = refl
-not_done BadResolver n = refl
-not_done LendMore n = refl
-not_done WrongLength n = refl
 
 module _ (text records head text' records' : List ℕ) (out : Outcome) (made : given out.answer text' records' out.head ≡ fresh_in text records (head_of 0 0 0 0)) where
   abbrev by : Given → Crossed

@@ -14,7 +14,7 @@ ghost use Rattle.export_scopes.specs.Fresh.{fresh_by};
 
 use export_memory::{DETAIL, HEAD};
 use name::PrefixDeclaration;
-use scope_table::{Head, NamespaceResolver, NamespaceResult};
+use scope_table::{Head, NamespaceResolver};
 
 // The numbers that a caller's memory is held against, as `layout_of` of specs/Layout.antt lists them. The kit has no
 // `size_of`, so the bytes of a number, its alignment and the bytes of a hash are what x86-64 has.
@@ -61,11 +61,9 @@ pub fn mz_fresh(text: &mut [u8], records: &mut [usize], head: &mut [usize; 4]) -
         limit: 0,
     };
     let out = scope_table::fresh_in(text, records, none);
-    let answer = out.answer;
-    let NamespaceResult::Done = answer else {
-        let told = scope_table::change_numbers(answer);
-        return told.number;
-    };
+    if out.answer.is_err() {
+        return scope_table::change_numbers(out.answer).number;
+    }
     export_memory::left_head(head, out)
 }
 
@@ -107,13 +105,13 @@ pub fn mz_set_level(text: &mut [u8], records: &mut [usize], head: &mut [usize; 4
 }
 
 // A named prefix, or the default.
-fn declared_by(named: bool) -> PrefixDeclaration
+fn declared_by(named: bool) -> Option<PrefixDeclaration>
     ensures { result ≡ declared_by named }
 {
     if named {
-        return PrefixDeclaration::Named;
+        return Some(PrefixDeclaration::Named);
     }
-    PrefixDeclaration::Default
+    Some(PrefixDeclaration::Default)
 }
 
 // A binding goes in: `scope_declare::add_in`. Without `named` the default, whatever `prefix` holds.

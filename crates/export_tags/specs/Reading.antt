@@ -1,9 +1,9 @@
 -- A batch across the boundary: an iterator in three lent tables and four lent numbers, and what a call leaves in them.
-use Rattle.std.specs.Prelude.{ℕ, Bool, List, length, get_or, set, ltb}
+use Rattle.std.specs.Prelude.{ℕ, Bool, List, length, get_or, set, ltb, Result, Ok, Err}
 use Rattle.scan.specs.First.{pick}
 use Rattle.tag_step.specs.declared.Place.{Place}
-use Rattle.tag_batch.specs.declared.Batch.{Batch}
-use Rattle.tag_batch.specs.declared.Batch.TheVariants.{Read, WrongTables}
+use Rattle.tag_batch.specs.declared.BatchRead.{BatchRead}
+use Rattle.tag_batch.specs.declared.WrongTables.{WrongTables}
 use Rattle.tag_batch.specs.Batch.{why_number, Batched, batch_of}
 use Rattle.export_cursor.specs.Cursor.{place_from, settled_of, held_in}
 
@@ -25,16 +25,16 @@ abbrev pub NONE : ℕ
 NONE = 18446744073709551615
 
 -- the number of answers; none for tables that are too long
-abbrev pub answers_number : Batch → ℕ
-answers_number (Read n left recorded why) = n
-answers_number WrongTables = NONE
+abbrev pub answers_number : Result BatchRead WrongTables → ℕ
+answers_number (Ok x) = x.answers
+answers_number (Err e) = NONE
 
 -- The four numbers after a batch: the place that is left, the recorded keys, and why it stopped. With room for no answer
 -- nothing is written, nor where the tables are too long.
-unfoldable pub state_by : (state : List ℕ) (before : Place) (room : ℕ) → Batch → List ℕ
-state_by state before room (Read n left recorded why) =
-    pick (ltb room 5) state (set (settled_of state before left recorded) 3 (why_number why))
-state_by state before room WrongTables = state
+unfoldable pub state_by : (state : List ℕ) (before : Place) (room : ℕ) → Result BatchRead WrongTables → List ℕ
+state_by state before room (Ok x) =
+    pick (ltb room 5) state (set (settled_of state before x.place x.count) 3 (why_number x.why))
+state_by state before room (Err e) = state
 
 -- a batch, with those numbers before it and the room that it had
 abbrev pub across : (state : List ℕ) (before : Place) (room : ℕ) → Batched → BatchEnd

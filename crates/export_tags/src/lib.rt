@@ -9,11 +9,10 @@ ghost use Rattle.name.specs.Declares.{declares_of, declares_number};
 ghost use Rattle.name.specs.Verdict.{verdict_of, verdict_number};
 ghost use Rattle.export_tags.specs.Reading.{batch_end, read_batch_of};
 
-use tag_batch::Batch;
 use tag_step::Standing;
 
 // No number of answers.
-const NONE: usize = 18446744073709551615;
+const NONE: usize = usize::MAX;
 
 // The index of the first colon, or the length where there is none.
 pub fn mz_split(name: &[u8]) -> usize
@@ -26,7 +25,7 @@ pub fn mz_split(name: &[u8]) -> usize
 pub fn mz_declares(name: &[u8]) -> usize
     ensures { result ≡ declares_number (declares_of name.now) }
 {
-    name::as_namespace_binding(name).number()
+    name::declares_number(name::as_namespace_binding(name))
 }
 
 // Whether a prefix is `xml`.
@@ -47,7 +46,7 @@ pub fn mz_is_xmlns(prefix: &[u8]) -> bool
 pub fn mz_verdict(name: &[u8], value: &[u8]) -> usize
     ensures { result ≡ verdict_number (verdict_of name.now value.now) }
 {
-    name::verdict_of(name, value).number()
+    name::verdict_number(name::verdict_of(name, value))
 }
 
 // As many answers of a run as `out` holds, five numbers each: `tag_batch::read_batch`. `state` is the kind of the place (0
@@ -70,20 +69,20 @@ pub fn mz_read_batch<'a>(
 {
     let place = export_cursor::place_from(tag.len(), state[0], state[1]);
     let at = Standing {
-        place: place,
-        html: html,
-        checks: checks,
+        place,
+        html,
+        checks,
         count: state[2],
     };
     let room = out.len();
     let batch = tag_batch::read_batch(tag, starts, ends, hashes, at, out);
-    let Batch::Read(n, left, recorded, why) = batch else {
+    let Ok(read) = batch else {
         return NONE;
     };
     if room < 5 {
-        return n;
+        return read.answers;
     }
-    export_cursor::settle(state, place, left, recorded);
-    state[3] = why.number();
-    n
+    export_cursor::settle(state, place, read.place, read.count);
+    state[3] = read.why.number();
+    read.answers
 }

@@ -15,8 +15,6 @@ use Rattle.name.specs.Split.{colon_at, has_colon, colon_of, prefix_of}
 use Rattle.name.specs.Reserved.{xml_prefix, xmlns_prefix, xml_uri, xmlns_uri, is_xml, is_xmlns}
 use Rattle.name.specs.Declares.{opening}
 use Rattle.name.specs.Verdict.{is_empty, verdict_of}
-use Rattle.name.specs.declared.Colon.TheVariants.{At, Nowhere}
-use Rattle.name.specs.declared.Verdict.TheVariants.{No}
 use Rattle.name.proofs.Declared.{xml_eq, xmlns_eq, named_of_lem, prefix_of_named}
 use Rattle.name.proofs.Verdicts.{Allowed}
 use Rattle.law_wellformed.specs.Grammar.{Attribute}
@@ -25,7 +23,8 @@ use Rattle.scope_table.specs.Table.{LIMIT, valid_of, fresh_of}
 use Rattle.scope_table.specs.declared.NamespaceResolver.{NamespaceResolver}
 use Rattle.scope_declare.specs.Declare.{limited_of}
 use Rattle.scope_lookup.specs.Lookup.{has_prefix, is_default, explicit_of, default_of, among_of, resolve_prefix_of, resolve_of, prefix_part}
-use Rattle.scope_lookup.specs.declared.Resolved.TheVariants.{Unbound, Unknown}
+use Rattle.std.specs.Prelude.{Ok, Some, None}
+use Rattle.scope_lookup.specs.declared.ResolveResult.TheVariants.{Unbound, Unknown}
 use Rattle.law_rows.specs.Seen.{bound, unbound, unknown, handed_back}
 use Rattle.law_chain.specs.Chain.{Tag, pushed_of, NoneRefused, NoneNo, FineTags, Stated, gives, nowhere, or_else, given_by, innermost, declaring, declaring_default, prefixed_by, default_by, unprefixed, meant_by, meant_of}
 use Rattle.law_chain.proofs.Table.{built_ins, fresh_holds, limited_holds, newest, seen_by, last_seen, prefix_test, default_test}
@@ -54,22 +53,22 @@ chain_binds limit (t ∷ outer) fine done =
 
 -- What is given for a prefix is allowed: neither the prefix nor the value is empty.
 
-given_verdict : (n v : List ℕ) (more : List Attribute) → NoneNo more → given_by n more ≡ gives v → verdict_of n v ≡ No → ⊥
+given_verdict : (n v : List ℕ) (more : List Attribute) → NoneNo more → given_by n more ≡ gives v → verdict_of n v ≡ Some false → ⊥
 unfolding NoneNo given_by
 given_verdict n v [] verdicts e = let z : ◌≡◌ {A = ℕ} 0 1 = cc in absurd (omega arith)
 given_verdict n v (a ∷ more) verdicts e = by (given_verdict n v more verdicts.1) (same_bytes a.name n) refl e where
-  by : (given_by n more ≡ gives v → verdict_of n v ≡ No → ⊥) → (t : Bool) → same_bytes a.name n ≡ t → pick t (gives a.value) (given_by n more) ≡ gives v → verdict_of n v ≡ No → ⊥
+  by : (given_by n more ≡ gives v → verdict_of n v ≡ Some false → ⊥) → (t : Bool) → same_bytes a.name n ≡ t → pick t (gives a.value) (given_by n more) ≡ gives v → verdict_of n v ≡ Some false → ⊥
   by later true s g refused =
       let m = same_eq a.name n s in
       let w : a.value ≡ v = cc in
       verdicts.0 (rw (m, w) refused)
   by later false s g refused = later g refused
 
-innermost_verdict : (n v : List ℕ) (tags : List Tag) → FineTags tags → innermost n tags ≡ gives v → verdict_of n v ≡ No → ⊥
+innermost_verdict : (n v : List ℕ) (tags : List Tag) → FineTags tags → innermost n tags ≡ gives v → verdict_of n v ≡ Some false → ⊥
 unfolding FineTags innermost or_else
 innermost_verdict n v [] fine e = let z : ◌≡◌ {A = ℕ} 0 1 = cc in absurd (omega arith)
 innermost_verdict n v (t ∷ outer) fine e = by (innermost_verdict n v outer fine.1) (given_by n t.body.attributes) refl e where
-  by : (innermost n outer ≡ gives v → verdict_of n v ≡ No → ⊥) → (g : Stated) → given_by n t.body.attributes ≡ g → or_else g (innermost n outer) ≡ gives v → verdict_of n v ≡ No → ⊥
+  by : (innermost n outer ≡ gives v → verdict_of n v ≡ Some false → ⊥) → (g : Stated) → given_by n t.body.attributes ≡ g → or_else g (innermost n outer) ≡ gives v → verdict_of n v ≡ Some false → ⊥
   by later (gives w) s g refused = given_verdict n v t.body.attributes fine.0.verdicts (s ∙ g) refused
   by later nowhere s g refused = later g refused
 
@@ -130,7 +129,7 @@ module _ (limit : ℕ) (tags : List Tag) (fine : FineTags tags) (done : NoneRefu
   valid = binds.holds.proper.valid
 
   -- an explicit prefix, which a name begins with
-  explicit_seen : (p rest : List ℕ) → handed_back x (p ++ rest) (explicit_of x.text (record_at x.records) x.head.count p) ≡ prefixed_by p (innermost (declaring p) tags)
+  explicit_seen : (p rest : List ℕ) → handed_back x (p ++ rest) (Ok (explicit_of x.text (record_at x.records) x.head.count p)) ≡ prefixed_by p (innermost (declaring p) tags)
   unfolding explicit_of handed_back prefix_part name_for
   explicit_seen [] rest = rw (prefix_inside [] rest) (empty_nowhere (innermost (declaring []) tags) (λ v e. (given_allowed [] v tags fine e).prefix_there))
   explicit_seen (c ∷ q) rest =
@@ -141,7 +140,7 @@ module _ (limit : ℕ) (tags : List Tag) (fine : FineTags tags) (done : NoneRefu
       ∙ rw (prefix_inside p rest, binds.newer p) (prefixed_seen p (innermost (declaring p) tags) (λ v e. (given_allowed p v tags fine e).value_there)))
 
   -- no prefix
-  default_looked : (name : List ℕ) (element : Bool) → handed_back x name (default_of (record_at x.records) x.head.count element) ≡ unprefixed tags element
+  default_looked : (name : List ℕ) (element : Bool) → handed_back x name (Ok (default_of (record_at x.records) x.head.count element)) ≡ unprefixed tags element
   unfolding default_of handed_back unprefixed name_for
   default_looked name false = refl
   default_looked name true =
@@ -157,10 +156,10 @@ module _ (limit : ℕ) (tags : List Tag) (fine : FineTags tags) (done : NoneRefu
   pub innermost_declares : (name : List ℕ) (element : Bool) → handed_back x name (resolve_of name element x) ≡ meant_of tags name element
   unfolding resolve_of resolve_prefix_of among_of prefix_of meant_of meant_by colon_of
   innermost_declares name element = rw valid (by (has_colon name)) where
-    by : (t : Bool) → handed_back x name (pick t (explicit_of x.text (record_at x.records) x.head.count (pick t (take (colon_at name) name) [])) (default_of (record_at x.records) x.head.count element)) ≡ meant_by tags name element (pick t (At (colon_at name)) Nowhere)
+    by : (t : Bool) → handed_back x name (Ok (pick t (explicit_of x.text (record_at x.records) x.head.count (pick t (take (colon_at name) name) [])) (default_of (record_at x.records) x.head.count element))) ≡ meant_by tags name element (pick t (Some (colon_at name)) None)
     by true =
         let p = take (colon_at name) name in
-        subst (λ (n : List ℕ). handed_back x n (explicit_of x.text (record_at x.records) x.head.count p) ≡ prefixed_by p (innermost (declaring p) tags)) (take-append-drop (colon_at name) name)
+        subst (λ (n : List ℕ). handed_back x n (Ok (explicit_of x.text (record_at x.records) x.head.count p)) ≡ prefixed_by p (innermost (declaring p) tags)) (take-append-drop (colon_at name) name)
         (explicit_seen p (drop (colon_at name) name))
     by false = default_looked name element
 
@@ -169,7 +168,7 @@ module _ (limit : ℕ) (tags : List Tag) (fine : FineTags tags) (done : NoneRefu
   unfolding resolve_prefix_of among_of
   innermost_prefix p wanted =
       rw valid
-      (subst (λ (n : List ℕ). handed_back x n (explicit_of x.text (record_at x.records) x.head.count p) ≡ prefixed_by p (innermost (declaring p) tags)) (append-nil p)
+      (subst (λ (n : List ℕ). handed_back x n (Ok (explicit_of x.text (record_at x.records) x.head.count p)) ≡ prefixed_by p (innermost (declaring p) tags)) (append-nil p)
       (explicit_seen p []))
 
   pub innermost_default : (p : List ℕ) (wanted : Bool) → handed_back x p (resolve_prefix_of p false wanted x) ≡ unprefixed tags wanted

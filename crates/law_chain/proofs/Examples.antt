@@ -7,6 +7,7 @@ use mathlib.Core.Bool.{Bool, true, false, false≢true}
 use mathlib.Core.List.{List, [], ◌∷◌, map, ◌++◌}
 use native.Mathlib.Omega.{arith}
 use lib.ListN.{drop}
+use Rattle.std.specs.Prelude.{Some}
 use Rattle.scan.specs.First.{first_of, first_to, first_from}
 use Rattle.scan.specs.Bytes.{is_space, not_space, ends_key, is_byte, part, inside, same_bytes, bytes_from, bytes}
 use Rattle.scan.specs.Lists.{over}
@@ -21,7 +22,6 @@ use Rattle.name.specs.Reserved.{xml_prefix, xmlns_prefix, xml_uri, xmlns_uri, is
 use Rattle.name.specs.Bind.{reserved_bind}
 use Rattle.name.specs.Declares.{opening, is_named, declares_of, declared_prefix, declares_number}
 use Rattle.name.specs.Verdict.{is_empty, is_other, is_refused, verdict_named, verdict_default, verdict_on, verdict_of, verdict_number}
-use Rattle.name.specs.declared.Verdict.TheVariants.{Yes, No}
 use Rattle.name.proofs.Split.{split_joins, prefix_colon_free}
 use Rattle.name.proofs.Declared.{default_exactly, named_exactly, nothing_exactly}
 use Rattle.name.proofs.Verdicts.{is_refusal, yes_means, allowed_yes, yes_binds}
@@ -87,7 +87,7 @@ plain_value q v h = record { pieces = map byte v; are = pieces_are q v h; text =
 apart : (a b : List ℕ) → same_bytes a b ≡ false → a ≡ b → ⊥
 apart a b h e = false≢true (sym h ∙ ap (same_bytes a) (sym e) ∙ same_refl a)
 
-not_no : (n v : List ℕ) (k : ℕ) → verdict_number (verdict_of n v) ≡ suc k → verdict_of n v ≡ No → ⊥
+not_no : (n v : List ℕ) (k : ℕ) → verdict_number (verdict_of n v) ≡ suc k → verdict_of n v ≡ Some false → ⊥
 not_no n v k h e = omega (arith, h, ap verdict_number e)
 
 plain_attribute : (n v : String) → some name_byte (bytes n) ≡ true → each (value_byte double) (bytes v) ≡ true → AttributeBy IsValue (attribute n v)
@@ -166,7 +166,7 @@ yes_instance = (
 )
 
 -- the innermost tag's default, which has no bytes
-pub allowed_instance : verdict_of (bytes "xmlns") [] ≡ Yes
+pub allowed_instance : verdict_of (bytes "xmlns") [] ≡ Some true
 unfolding same_bytes bytes_from bytes xmlns_prefix xml_uri xmlns_uri is_xmlns is_xml_uri is_xmlns_uri opening is_named declares_of
 allowed_instance =
     allowed_yes (bytes "xmlns") []

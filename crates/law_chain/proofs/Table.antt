@@ -24,8 +24,9 @@ use Rattle.scope_push.specs.Push.{raised_of}
 use Rattle.scope_table.specs.Lists.{last_below}
 use Rattle.scope_table.proofs.Good.{Shaped, form_of_lem}
 use Rattle.scope_lookup.specs.Lookup.{has_prefix, is_default, value_or, uri_part}
-use Rattle.scope_lookup.specs.declared.Resolved.{Resolved}
-use Rattle.scope_lookup.specs.declared.Resolved.TheVariants.{Bound}
+use Rattle.std.specs.Prelude.{Ok}
+use Rattle.scope_lookup.specs.declared.ResolveResult.{ResolveResult}
+use Rattle.scope_lookup.specs.declared.ResolveResult.TheVariants.{Bound}
 use Rattle.law_scopes.specs.Scopes.{Made, made}
 use Rattle.law_scopes.specs.Made.{made_of, made_at}
 use Rattle.law_scopes.specs.Promises.{Proper, BuiltInsStand}
@@ -144,9 +145,9 @@ module _ (x : NamespaceResolver) (g : Proper x) where
   unfolding Tests is_default made_at made_of
   default_test i h = ap (λ (n : ℕ). eqb n 0) (sym (prefix_length x g.sized f i h)) ∙ empty_same (prefix_in x.text (rows i))
 
-  module _ (name : List ℕ) (other : Resolved) where
-    abbrev seen : Resolved → Seen
-    seen = handed_back x name
+  module _ (name : List ℕ) (other : ResolveResult) where
+    abbrev seen : ResolveResult → Seen
+    seen found = handed_back x name (Ok found)
 
     pick_seen : (t : Bool) (a e : ℕ) → seen (pick t other (Bound a e)) ≡ pick t (seen other) (bound (inside x.text a e))
     unfolding handed_back uri_part

@@ -8,6 +8,7 @@ use lib.Dec.{leb}
 use lib.ListN.{length}
 use lib.Seq.{take-length}
 use borrow.Author.Tests.{leb-false}
+use Rattle.std.specs.Prelude.{Ok, Option, Some, None}
 use Rattle.scan.specs.First.{pick}
 use Rattle.scan.specs.Bytes.{same_bytes, bytes, bytes_from}
 use Rattle.scan.proofs.Laws.{picks}
@@ -17,12 +18,11 @@ use Rattle.name.specs.Bind.{reserved_bind}
 use Rattle.name.specs.Declares.{opening, declares_of, declared_prefix}
 use Rattle.name.specs.Verdict.{is_empty, is_other, verdict_named, verdict_of}
 use Rattle.name.specs.declared.PrefixDeclaration.{PrefixDeclaration}
-use Rattle.name.specs.declared.PrefixDeclaration.TheVariants.{Nothing, Default, Named}
-use Rattle.name.specs.declared.Verdict.TheVariants.{No}
+use Rattle.name.specs.declared.PrefixDeclaration.TheVariants.{Default, Named}
 use Rattle.name.proofs.Declared.{xml_eq, xml_uri_eq, default_exactly, named_exactly, nothing_exactly}
 use Rattle.name.proofs.Verdicts.{Allowed, named_means, named_verdict, bind_own, bind_fine}
 use Rattle.tag_step.specs.declared.Span.{Span}
-use Rattle.tag_step.specs.declared.Answer.{Answer}
+use Rattle.tag_step.specs.Answer.{Answer}
 use Rattle.tag_step.specs.Read.{span}
 use Rattle.tag_parts.specs.Parts.{key_part, value_part}
 use Rattle.law_wellformed.specs.Grammar.{Quote, double, single, Attribute, body_text, Absent, Distinct}
@@ -34,7 +34,6 @@ use Rattle.scope_table.specs.Table.{DEEPEST, valid_of}
 use Rattle.scope_table.specs.Answer.{is_done}
 use Rattle.scope_table.specs.declared.NamespaceResolver.{NamespaceResolver}
 use Rattle.scope_table.specs.declared.Changed.{Changed}
-use Rattle.scope_table.specs.declared.NamespaceResult.TheVariants.{Done}
 use Rattle.scope_change.specs.Change.{whole, append_of}
 use Rattle.scope_declare.specs.Declare.{places_of, named_of, judge_of, settle_of, declare_of}
 use Rattle.scope_declare.specs.declared.Places.{Places}
@@ -84,7 +83,7 @@ prefix_named [] q h = absurd (true≢false h)
 prefix_named (d ∷ p) [] h = refl
 prefix_named (d ∷ p) (c ∷ q) h = refl
 
-nothing_named : (key q : List ℕ) → declares_of key ≡ Nothing → same_bytes key (name_for q) ≡ false
+nothing_named : (key q : List ℕ) → declares_of key ≡ None → same_bytes key (name_for q) ≡ false
 unfolding name_for declaring_default declaring xmlns_prefix opening
 nothing_named key [] e = same_ne key (name_for []) (nothing_exactly key e).0
 nothing_named key (c ∷ q) e = same_ne key (name_for (c ∷ q)) ((nothing_exactly key e).1 (c ∷ q))
@@ -99,7 +98,7 @@ append_holds x bs p v h =
 
 -- One attribute.
 
-pub allowed : (key value : List ℕ) → declares_of key ≡ Named → (verdict_of key value ≡ No → ⊥) → Allowed (declared_prefix key) value
+pub allowed : (key value : List ℕ) → declares_of key ≡ Some Named → (verdict_of key value ≡ Some false → ⊥) → Allowed (declared_prefix key) value
 allowed key value d n = by (verdict_named (declared_prefix key) value) refl where
   by : (t : Bool) → verdict_named (declared_prefix key) value ≡ t → Allowed (declared_prefix key) value
   by true e = named_means (declared_prefix key) value e
@@ -110,7 +109,7 @@ unfolding or_else
 pick_given true v old = refl
 pick_given false v old = refl
 
-module _ (x : NamespaceResolver) (bs : List Made) (h : Holds x bs) (own : newest xml_prefix bs ≡ gives xml_uri) (key value : List ℕ) (at : Places) (verdict : verdict_of key value ≡ No → ⊥) where
+module _ (x : NamespaceResolver) (bs : List Made) (h : Holds x bs) (own : newest xml_prefix bs ≡ gives xml_uri) (key value : List ℕ) (at : Places) (verdict : verdict_of key value ≡ Some false → ⊥) where
   abbrev p : List ℕ
   p = declared_prefix key
 
@@ -148,13 +147,13 @@ module _ (x : NamespaceResolver) (bs : List Made) (h : Holds x bs) (own : newest
       (λ d. bound_after (append_of whole p value x).resolver p (append_holds x bs p value h d) e
       (λ r. ap (λ (l : List ℕ). same_bytes l (name_for r)) k ∙ prefix_named p r a.prefix_there))
 
-  declared_by_lem : (d : PrefixDeclaration) → declares_of key ≡ d → is_done (declare_of whole d p value at x).answer ≡ true → After (declare_of whole d p value at x).resolver bs (one_gives key value)
+  declared_by_lem : (d : Option PrefixDeclaration) → declares_of key ≡ d → is_done (declare_of whole d p value at x).answer ≡ true → After (declare_of whole d p value at x).resolver bs (one_gives key value)
   unfolding declare_of judge_of settle_of is_xml same_bytes xml_prefix bytes bytes_from
-  declared_by_lem Nothing e d = same_after (λ q s. absurd (true≢false (sym s ∙ nothing_named key q e)))
-  declared_by_lem Default e d =
+  declared_by_lem None e d = same_after (λ q s. absurd (true≢false (sym s ∙ nothing_named key q e)))
+  declared_by_lem (Some Default) e d =
       bound_after (append_of whole [] value x).resolver [] (append_holds x bs [] value h d) refl
       (λ r. ap (λ (l : List ℕ). same_bytes l (name_for r)) (default_exactly key e) ∙ default_named r)
-  declared_by_lem Named e d = named_by (allowed key value e verdict) (named_exactly key e) (is_xml p) refl d
+  declared_by_lem (Some Named) e d = named_by (allowed key value e verdict) (named_exactly key e) (is_xml p) refl d
 
 -- All of a tag.
 
@@ -223,7 +222,7 @@ push_done x s from =
 -- A push that is not refused binds what the tag declares.
 pub push_binds : (t : Tag) → FineTag t → (x : NamespaceResolver) (bs : List Made) → Holds x bs → newest xml_prefix bs ≡ gives xml_uri →
     let c = push_of (t.name ++ body_text t.body) (length t.name) x in
-    c.answer ≡ Done → After c.resolver bs (λ q. given_by (name_for q) t.body.attributes)
+    c.answer ≡ Ok tt → After c.resolver bs (λ q. given_by (name_for q) t.body.attributes)
 unfolding tag_answers
 push_binds t fine x bs h own done =
     let s = t.name ++ body_text t.body in

@@ -1,19 +1,15 @@
 -- Document 01, "Well-formed tags": a chain of tags pushed on a fresh resolver, and what a name means inside it by
 -- Namespaces 1.0, 6.1 and 6.2. The meaning is said of the tags' attributes alone, and of no table.
-use Rattle.std.specs.Prelude.{ℕ, ◌≡◌, Bool, true, false, List, [], ◌∷◌, ◌++◌, length, take}
+use Rattle.std.specs.Prelude.{ℕ, ◌≡◌, Bool, true, false, List, [], ◌∷◌, ◌++◌, length, take, Ok, Option, Some, None}
 use Rattle.scan.specs.First.{pick}
 use Rattle.scan.specs.Bytes.{bytes, same_bytes}
 use Rattle.name.specs.Split.{colon_of}
 use Rattle.name.specs.Reserved.{is_xml, is_xmlns, xml_uri, xmlns_uri}
 use Rattle.name.specs.Verdict.{is_empty, verdict_of}
-use Rattle.name.specs.declared.Colon.{Colon}
-use Rattle.name.specs.declared.Colon.TheVariants.{At, Nowhere}
-use Rattle.name.specs.declared.Verdict.TheVariants.{No}
 use Rattle.law_wellformed.specs.Grammar.{Attribute, Body, body_text, WellFormed, Distinct}
 use Rattle.scope_table.specs.Table.{fresh_of}
 use Rattle.scope_table.specs.Answer.{changed}
 use Rattle.scope_table.specs.declared.Changed.{Changed}
-use Rattle.scope_table.specs.declared.NamespaceResult.TheVariants.{Done}
 use Rattle.scope_declare.specs.Declare.{limited_of}
 use Rattle.scope_push.specs.Push.{push_of}
 use Rattle.law_rows.specs.Seen.{Seen, bound, unbound, unknown}
@@ -28,18 +24,18 @@ pub record Tag : Type 0 where
 -- All of them pushed on a fresh resolver, the outermost first, whatever limit is set on it: what the last push answers
 -- and leaves. The attributes of a tag begin where its name ends.
 unfoldable pub pushed_of : (limit : ℕ) → List Tag → Changed
-pushed_of limit [] = changed Done (limited_of limit fresh_of)
+pushed_of limit [] = changed (Ok tt) (limited_of limit fresh_of)
 pushed_of limit (t ∷ outer) = push_of (t.name ++ body_text t.body) (length t.name) (pushed_of limit outer).resolver
 
 -- no push is refused
 unfoldable pub NoneRefused : (limit : ℕ) → List Tag → Type 0
 NoneRefused limit [] = Unit {0}
-NoneRefused limit (t ∷ outer) = ((pushed_of limit (t ∷ outer)).answer ≡ Done) × NoneRefused limit outer
+NoneRefused limit (t ∷ outer) = ((pushed_of limit (t ∷ outer)).answer ≡ Ok tt) × NoneRefused limit outer
 
 -- Each declaration has a yes verdict: no attribute has a no.
 unfoldable pub NoneNo : List Attribute → Type 0
 NoneNo [] = Unit {0}
-NoneNo (a ∷ more) = (verdict_of a.name a.value ≡ No → ⊥) × NoneNo more
+NoneNo (a ∷ more) = (verdict_of a.name a.value ≡ Some false → ⊥) × NoneNo more
 
 -- A tag of the productions with distinct names, whose declarations Namespaces 1.0 allows.
 pub record FineTag (t : Tag) : Type 0 where
@@ -99,9 +95,9 @@ unprefixed tags true = default_by (innermost declaring_default tags)
 unprefixed tags false = unbound
 
 -- A name splits at its first colon, its prefix standing before it.
-unfoldable pub meant_by : List Tag → (name : List ℕ) (element : Bool) → Colon → Seen
-meant_by tags name element (At c) = prefixed_by (take c name) (innermost (declaring (take c name)) tags)
-meant_by tags name element Nowhere = unprefixed tags element
+unfoldable pub meant_by : List Tag → (name : List ℕ) (element : Bool) → Option ℕ → Seen
+meant_by tags name element (Some c) = prefixed_by (take c name) (innermost (declaring (take c name)) tags)
+meant_by tags name element None = unprefixed tags element
 
 unfoldable pub meant_of : List Tag → (name : List ℕ) (element : Bool) → Seen
 meant_of tags name element = meant_by tags name element (colon_of name)

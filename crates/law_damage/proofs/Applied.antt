@@ -8,13 +8,15 @@ use native.Mathlib.Omega.{arith}
 use lib.ListN.{length, get_or}
 use lib.Dec.{leb}
 use borrow.Author.Tests.{leb-true}
+use Rattle.std.specs.Prelude.{Some, Ok, Err}
 use Rattle.scan.specs.First.{first_of, first_to, first_from}
 use Rattle.scan.specs.Bytes.{is_space, not_space, ends_key, is_byte, part, same_bytes, bytes_from, bytes}
 use Rattle.scan.proofs.Laws.{first}
 use Rattle.tag_keys.specs.Hash.{times_prime, hash_from, hash_of}
 use Rattle.tag_keys.specs.Keys.{key_good, hash_is, key_bad, count_good, table_good, name_at, same_key, oldest_of, earlier_of, checked_by, checked_of, written_by, count_by}
 use Rattle.tag_keys.proofs.Laws.{keys_none}
-use Rattle.tag_step.specs.declared.Answer.TheVariants.{SingleQ, ExpectedQuote, UnquotedValue, Duplicated}
+use Rattle.tag_step.specs.declared.Attr.TheVariants.{SingleQ}
+use Rattle.tag_step.specs.declared.AttrError.TheVariants.{UnquotedValue, ExpectedQuote, Duplicated}
 use Rattle.tag_step.specs.declared.IterState.{IterState}
 use Rattle.tag_step.specs.declared.Step.{Step}
 use Rattle.tag_step.specs.Read.{span, is_at, is_quote, skip_to, skip_of, recover_of, key_eq, key_to, key_from, key_at, quoted, closed_of, quoted_to, quoted_of, unquoted_to, other_of, value_by, value_from, value_at}
@@ -48,10 +50,10 @@ tag = bytes "a=\"12\" b='3' a=\"x\" c=\"4\" d=\""
 abbrev marks : List Marked
 marks =
     struck 34 (span 0 1) (span 3 5) (bytes "z")
-    ∷ kept (SingleQ (span 7 8) (span 10 11))
-    ∷ kept (Duplicated 13 0)
+    ∷ kept (Some (Ok (SingleQ (span 7 8) (span 10 11))))
+    ∷ kept (Some (Err (Duplicated 13 0)))
     ∷ struck 34 (span 19 20) (span 22 23) (bytes "yyyyy")
-    ∷ kept (ExpectedQuote 28 34)
+    ∷ kept (Some (Err (ExpectedQuote 28 34)))
     ∷ []
 
 marked : map was marks ≡ answers_of tag start
@@ -69,7 +71,7 @@ hurt : Hurt tag start marks
 hurt = damage_moves tag start marks (opened_none 0 true) marked fits
 
 -- What the theorem says of the damaged tag: the struck ones are 3, at their runs; what follows moves by -3, then by -1.
-pub damage_example : answers_of (bytes "a=z b='3' a=\"x\" c=yyyyy d=\"") start ≡ UnquotedValue 2 ∷ SingleQ (span 4 5) (span 7 8) ∷ Duplicated 10 0 ∷ UnquotedValue 18 ∷ ExpectedQuote 27 34 ∷ []
+pub damage_example : answers_of (bytes "a=z b='3' a=\"x\" c=yyyyy d=\"") start ≡ Some (Err (UnquotedValue 2)) ∷ Some (Ok (SingleQ (span 4 5) (span 7 8))) ∷ Some (Err (Duplicated 10 0)) ∷ Some (Err (UnquotedValue 18)) ∷ Some (Err (ExpectedQuote 27 34)) ∷ []
 unfolding cuts whole_value damaged added taken_out moved move_answer becomes part bytes bytes_from
 damage_example = hurt.answers
 

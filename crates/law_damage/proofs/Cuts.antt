@@ -6,17 +6,17 @@ use mathlib.Core.List.{List, [], ◌∷◌, map}
 use native.Mathlib.Omega.{arith}
 use lib.ListN.{length, get_or}
 use lib.Dec.{eqb}
+use Rattle.std.proofs.Common.{Result, Ok, Err, Option, Some, None}
 use Rattle.scan.specs.First.{first_from, pick}
 use Rattle.scan.specs.Bytes.{not_space, is_byte}
 use Rattle.scan.proofs.Laws.{first}
-use Rattle.tag_keys.specs.declared.Checked.{Checked}
-use Rattle.tag_keys.specs.declared.Checked.TheVariants.{Fresh, Same, Full}
+use Rattle.tag_keys.specs.declared.KeyRefusal.{KeyRefusal}
+use Rattle.tag_keys.specs.declared.KeyRefusal.TheVariants.{Same, Full}
 use Rattle.tag_step.specs.declared.Span.{Span}
-use Rattle.tag_step.specs.declared.Start.{Start}
-use Rattle.tag_step.specs.declared.Start.TheVariants.{From, Ended}
 use Rattle.tag_step.specs.declared.KeyRead.TheVariants.{Valued}
-use Rattle.tag_step.specs.declared.Answer.{Answer}
-use Rattle.tag_step.specs.declared.Answer.TheVariants.{End, DoubleQ, SingleQ, Unquoted, Empty, ExpectedEq, ExpectedValue, UnquotedValue, ExpectedQuote, Duplicated, KeyTableFull, BadState}
+use Rattle.tag_step.specs.Answer.{Answer}
+use Rattle.tag_step.specs.declared.Attr.TheVariants.{DoubleQ, SingleQ, Unquoted, Empty}
+use Rattle.tag_step.specs.declared.AttrError.TheVariants.{BadState}
 use Rattle.tag_step.specs.declared.Found.{Found}
 use Rattle.tag_step.specs.Read.{span, recover_of, key_at, quoted, closed_of}
 use Rattle.tag_step.specs.Next.{Keys, Reading, reading, check_of, kept_by, valued_by, valued_to, read_at}
@@ -29,34 +29,28 @@ use Rattle.law_damage.specs.Damage.{Marked, kept, struck, was, Cut, whole_value,
 
 -- whether an answer is an attribute in quotes
 unfoldable is_quoted : Answer → Bool
-is_quoted End = false
-is_quoted (DoubleQ k v) = true
-is_quoted (SingleQ k v) = true
-is_quoted (Unquoted k v) = false
-is_quoted (Empty k) = false
-is_quoted (ExpectedEq p) = false
-is_quoted (ExpectedValue l) = false
-is_quoted (UnquotedValue p) = false
-is_quoted (ExpectedQuote l q) = false
-is_quoted (Duplicated this earlier) = false
-is_quoted (KeyTableFull this) = false
-is_quoted BadState = false
+is_quoted None = false
+is_quoted (Some (Ok (DoubleQ k v))) = true
+is_quoted (Some (Ok (SingleQ k v))) = true
+is_quoted (Some (Ok (Unquoted k v))) = false
+is_quoted (Some (Ok (Empty k))) = false
+is_quoted (Some (Err e)) = false
 
 quoted_is : (q : ℕ) (k v : Span) → is_quoted (quoted q k v) ≡ true
 unfolding is_quoted quoted
 quoted_is q k v = by (eqb q 34) where
-  by : (b : Bool) → is_quoted (pick b (DoubleQ k v) (SingleQ k v)) ≡ true
+  by : (b : Bool) → is_quoted (pick b (Some (Ok (DoubleQ k v))) (Some (Ok (SingleQ k v)))) ≡ true
   by true = refl
   by false = refl
 
-pub quoted_good : (q : ℕ) (k v : Span) → quoted q k v ≡ BadState → ⊥
+pub quoted_good : (q : ℕ) (k v : Span) → quoted q k v ≡ Some (Err BadState) → ⊥
 unfolding is_quoted
 quoted_good q k v e = true≢false (sym (quoted_is q k v) ∙ ap is_quoted e)
 
 quoted_value : (q r : ℕ) (k l v w : Span) → quoted q k v ≡ quoted r l w → v ≡ w
 unfolding quoted
 quoted_value q r k l v w = by (eqb q 34) (eqb r 34) where
-  by : (a b : Bool) → pick a (DoubleQ k v) (SingleQ k v) ≡ pick b (DoubleQ l w) (SingleQ l w) → v ≡ w
+  by : (a b : Bool) → pick {A = Answer} a (Some (Ok (DoubleQ k v))) (Some (Ok (SingleQ k v))) ≡ pick {A = Answer} b (Some (Ok (DoubleQ l w))) (Some (Ok (SingleQ l w))) → v ≡ w
   by true true e = cc
   by true false e = cc
   by false true e = cc
@@ -68,11 +62,11 @@ quoted_value q r k l v w = by (eqb q 34) (eqb r 34) where
 --     | |   | |     |
 --     o    eq v     e
 pub record Closed (s : List ℕ) (checks : Bool) (k : Keys) (o : ℕ) (key : Span) (eq v e : ℕ) : Type 0 where
-  pub read : key_at s o ≡ Valued key eq
+  pub read : key_at s o ≡ Some (Valued key eq)
   pub key_by : KeyBy (length s) o key eq
   pub eq_in : eq < length s
   pub count : ℕ
-  pub fresh : check_of s checks k key ≡ Fresh count
+  pub fresh : check_of s checks k key ≡ Ok count
   pub here : v ≡ first_from not_space s (eq + 1)
   pub v_in : v < length s
   pub there : e ≡ first_from (is_byte (get_or s v 0)) s (v + 1)
@@ -97,10 +91,10 @@ module _ (s : List ℕ) (checks : Bool) (k : Keys) (o : ℕ) (h : o ≤ length s
   other : (x : Reading) → is_quoted x.answer ≡ false → Goal x
   other x none e = absurd (true≢false (sym (quoted_is q qkey value) ∙ ap is_quoted e ∙ none))
 
-  valued_cut : (key : Span) (eq : ℕ) → key_at s o ≡ Valued key eq → KeyBy (length s) o key eq → eq < length s → (c : Checked)
+  valued_cut : (key : Span) (eq : ℕ) → key_at s o ≡ Some (Valued key eq) → KeyBy (length s) o key eq → eq < length s → (c : Result ℕ KeyRefusal)
       → c ≡ check_of s checks k key → Goal (valued_to s false checks k key eq c)
   unfolding valued_to valued_by is_quoted closed_of
-  valued_cut key eq r by l (Fresh n) is =
+  valued_cut key eq r by l (Ok n) is =
       rw is
       (value_ways s false key eq _ refl (λ (x : Found) (_ : ℕ). Goal (reading x (kept_by s checks k key (check_of s checks k key))))
       (λ _. other _ refl)
@@ -110,8 +104,8 @@ module _ (s : List ℕ) (checks : Bool) (k : Keys) (o : ℕ) (h : o ≤ length s
       (λ e _ _ _ _. other _ refl)
       (λ e _ _ _ _. other _ refl)
       (λ _ _ _. other _ refl))
-  valued_cut key eq r by l (Same p) is = other _ refl
-  valued_cut key eq r by l Full is = other _ refl
+  valued_cut key eq r by l (Err (Same p)) is = other _ refl
+  valued_cut key eq r by l (Err Full) is = other _ refl
 
   pub read_cut : Goal (read_at s false checks k o)
   unfolding is_quoted
@@ -123,7 +117,7 @@ module _ (s : List ℕ) (checks : Bool) (k : Keys) (o : ℕ) (h : o ≤ length s
       (λ key eq c e i a is. valued_cut key eq e i (at_in s 61 eq a) c is)
 
 -- where reading goes on after a step in XML mode, and with which keys
-abbrev pub next_start : List ℕ → Bool → Keys → ℕ → Start
+abbrev pub next_start : List ℕ → Bool → Keys → ℕ → Option ℕ
 next_start s checks k o = recover_of s (read_at s false checks k o).place
 
 abbrev pub next_keys : List ℕ → Bool → Keys → ℕ → Keys
@@ -146,19 +140,19 @@ unfolding Apart
 apart_before len o w [] h d = tt
 apart_before len o w (c ∷ cs) h d = (omega (arith, d.0), d.1, d.2, d.3)
 
-abbrev pub ApartStart : ℕ → Start → List Cut → Type 0
-ApartStart len (From o) cs = Apart len o cs
-ApartStart len Ended cs = cs ≡ []
+abbrev pub ApartStart : ℕ → Option ℕ → List Cut → Type 0
+ApartStart len (Some o) cs = Apart len o cs
+ApartStart len None cs = cs ≡ []
 
-pub start_before : (len o : ℕ) (x : Start) (cs : List Cut) → StartPast len o x → ApartStart len x cs → Apart len o cs
+pub start_before : (len o : ℕ) (x : Option ℕ) (cs : List Cut) → StartPast len o x → ApartStart len x cs → Apart len o cs
 unfolding Apart StartPast
-start_before len o (From w) cs a d = apart_before len o w cs (omega arith) d
-start_before len o Ended cs a d = subst (Apart len o) (sym d) tt
+start_before len o (Some w) cs a d = apart_before len o w cs (omega arith) d
+start_before len o None cs a d = subst (Apart len o) (sym d) tt
 
-pub none_apart : (len : ℕ) (x : Start) → ApartStart len x []
+pub none_apart : (len : ℕ) (x : Option ℕ) → ApartStart len x []
 unfolding Apart
-none_apart len (From o) = tt
-none_apart len Ended = refl
+none_apart len (Some o) = tt
+none_apart len None = refl
 
 -- a damaged step's cut stands before the later ones
 cut_apart : (s : List ℕ) (checks : Bool) (k : Keys) (o : ℕ) → o ≤ length s → (run : List ℕ) (cs : List Cut) (q : ℕ) (key value : Span)
@@ -170,7 +164,7 @@ cut_apart s checks k o h run cs q key value =
     (λ key' eq v e cl same d.
     let ord = closed_order cl in
     let l = cl.e_in in
-    rw (cut_closed value v e run same) (omega arith, omega arith, omega arith, subst (λ (x : Start). ApartStart (length s) x cs) (sym (next_from s (e + 1) (omega arith))) d))
+    rw (cut_closed value v e run same) (omega arith, omega arith, omega arith, subst (λ (x : Option ℕ). ApartStart (length s) x cs) (sym (next_from s (e + 1) (omega arith))) d))
 
 -- reading goes on past where a step began
 pub read_past : (s : List ℕ) (checks : Bool) (k : Keys) (o : ℕ) → o ≤ length s → StartPast (length s) o (next_start s checks k o)
@@ -183,14 +177,14 @@ unfolding was cuts
 chosen s checks k o h (kept a) ms e d = start_before (length s) o (next_start s checks k o) (cuts ms) (read_past s checks k o h) d
 chosen s checks k o h (struck q key value run) ms e d = cut_apart s checks k o h run (cuts ms) q key value e d
 
-pub cuts_apart : (n : ℕ) (s : List ℕ) (checks : Bool) (k : Keys) (x : Start) (ms : List Marked) → StartIn (length s) x
+pub cuts_apart : (n : ℕ) (s : List ℕ) (checks : Bool) (k : Keys) (x : Option ℕ) (ms : List Marked) → StartIn (length s) x
     → map was ms ≡ run_from n s false checks k x → ApartStart (length s) x (cuts ms)
 unfolding run_from cuts StartIn
 cuts_apart zero s checks k x [] i e = none_apart (length s) x
 cuts_apart zero s checks k x (m ∷ ms) i e = let z : ◌≡◌ {A = ℕ} 0 1 = cc in absurd (omega arith)
-cuts_apart (suc n) s checks k Ended [] i e = none_apart (length s) Ended
-cuts_apart (suc n) s checks k Ended (m ∷ ms) i e = let z : ◌≡◌ {A = ℕ} 0 1 = cc in absurd (omega arith)
-cuts_apart (suc n) s checks k (From o) [] i e = none_apart (length s) (From o)
-cuts_apart (suc n) s checks k (From o) (m ∷ ms) i e =
+cuts_apart (suc n) s checks k None [] i e = none_apart (length s) None
+cuts_apart (suc n) s checks k None (m ∷ ms) i e = let z : ◌≡◌ {A = ℕ} 0 1 = cc in absurd (omega arith)
+cuts_apart (suc n) s checks k (Some o) [] i e = none_apart (length s) (Some o)
+cuts_apart (suc n) s checks k (Some o) (m ∷ ms) i e =
     let u = uncons _ _ _ _ _ e in
     chosen s checks k o i m ms u.1 (cuts_apart n s checks (next_keys s checks k o) (next_start s checks k o) ms (recover_in s (read_at s false checks k o).place) u.2)

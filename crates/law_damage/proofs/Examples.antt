@@ -8,13 +8,15 @@ use mathlib.Core.List.{List, [], ◌∷◌, map}
 use native.Mathlib.Omega.{arith}
 use lib.ListN.{length, get_or, replicate}
 use lib.Dec.{eqb, ltb, leb}
+use Rattle.std.specs.Prelude.{Some, Ok, Err}
 use Rattle.scan.specs.First.{first_of, first_to, first_from}
 use Rattle.scan.specs.Bytes.{is_space, not_space, ends_key, is_byte, part, same_bytes, bytes_from, bytes}
 use Rattle.tag_keys.specs.Hash.{times_prime, hash_from, hash_of}
 use Rattle.tag_keys.specs.Keys.{capacity, key_good, hash_is, key_bad, count_good, table_good, name_at, same_key, oldest_of, earlier_of, checked_by, checked_of, written_by, count_by}
 use Rattle.tag_step.specs.declared.Place.TheVariants.{Next, SkipValue}
-use Rattle.tag_step.specs.declared.Answer.{Answer}
-use Rattle.tag_step.specs.declared.Answer.TheVariants.{SingleQ, Unquoted, ExpectedEq, ExpectedQuote, UnquotedValue, Duplicated, BadState}
+use Rattle.tag_step.specs.Answer.{Answer}
+use Rattle.tag_step.specs.declared.Attr.TheVariants.{SingleQ, Unquoted}
+use Rattle.tag_step.specs.declared.AttrError.TheVariants.{ExpectedEq, UnquotedValue, ExpectedQuote, Duplicated, BadState}
 use Rattle.tag_step.specs.declared.IterState.{IterState}
 use Rattle.tag_step.specs.Read.{span, is_at, is_quote, skip_to, skip_of, recover_of, key_eq, key_to, key_from, key_at, quoted, closed_of, quoted_to, quoted_of, unquoted_to, other_of, value_by, value_from, value_at}
 use Rattle.tag_step.specs.Next.{check_of, kept_by, place_at, bare_by, bare_to, bare_of, valued_by, valued_to, valued_of, read_key, read_at, step_from, step_of, place_good, keys_of, state_good, no_keys, bad_reading, leaves, next_of, opened}
@@ -55,15 +57,15 @@ both_ways =
       state = start;
       marks =
           struck 34 (span 0 1) (span 3 5) (bytes "z")
-          ∷ kept (SingleQ (span 7 8) (span 10 11))
-          ∷ kept (Duplicated 13 0)
+          ∷ kept (Some (Ok (SingleQ (span 7 8) (span 10 11))))
+          ∷ kept (Some (Err (Duplicated 13 0)))
           ∷ struck 34 (span 19 20) (span 22 23) (bytes "yyyyy")
-          ∷ kept (ExpectedQuote 28 34)
+          ∷ kept (Some (Err (ExpectedQuote 28 34)))
           ∷ [];
       hurt = "a=z b='3' a=\"x\" c=yyyyy d=\"";
       holds = true ∷ true ∷ true ∷ true ∷ true ∷ true ∷ true ∷ true ∷ true ∷ true ∷ [];
-      says = UnquotedValue 2 ∷ SingleQ (span 4 5) (span 7 8) ∷ Duplicated 10 0 ∷ UnquotedValue 18 ∷ ExpectedQuote 27 34 ∷ [];
-      gives = UnquotedValue 2 ∷ SingleQ (span 4 5) (span 7 8) ∷ Duplicated 10 0 ∷ UnquotedValue 18 ∷ ExpectedQuote 27 34 ∷ [];
+      says = Some (Err (UnquotedValue 2)) ∷ Some (Ok (SingleQ (span 4 5) (span 7 8))) ∷ Some (Err (Duplicated 10 0)) ∷ Some (Err (UnquotedValue 18)) ∷ Some (Err (ExpectedQuote 27 34)) ∷ [];
+      gives = Some (Err (UnquotedValue 2)) ∷ Some (Ok (SingleQ (span 4 5) (span 7 8))) ∷ Some (Err (Duplicated 10 0)) ∷ Some (Err (UnquotedValue 18)) ∷ Some (Err (ExpectedQuote 27 34)) ∷ [];
     }
 
 -- from a place that skips a value first, with checks off: moved by +4, and at the end by +4 - 2
@@ -75,13 +77,13 @@ from_a_skip =
       marks =
           struck 39 (span 3 4) (span 6 7) (bytes "longer\"")
           ∷ struck 34 (span 9 10) (span 12 14) (bytes "=0")
-          ∷ kept (UnquotedValue 18)
-          ∷ kept (ExpectedEq 21)
+          ∷ kept (Some (Err (UnquotedValue 18)))
+          ∷ kept (Some (Err (ExpectedEq 21)))
           ∷ [];
       hurt = "\"' x=longer\" y==0 x=w v";
       holds = true ∷ true ∷ true ∷ true ∷ true ∷ true ∷ true ∷ true ∷ true ∷ true ∷ [];
-      says = UnquotedValue 5 ∷ UnquotedValue 15 ∷ UnquotedValue 20 ∷ ExpectedEq 23 ∷ [];
-      gives = UnquotedValue 5 ∷ UnquotedValue 15 ∷ UnquotedValue 20 ∷ ExpectedEq 23 ∷ [];
+      says = Some (Err (UnquotedValue 5)) ∷ Some (Err (UnquotedValue 15)) ∷ Some (Err (UnquotedValue 20)) ∷ Some (Err (ExpectedEq 23)) ∷ [];
+      gives = Some (Err (UnquotedValue 5)) ∷ Some (Err (UnquotedValue 15)) ∷ Some (Err (UnquotedValue 20)) ∷ Some (Err (ExpectedEq 23)) ∷ [];
     }
 
 -- what one premise fewer would allow
@@ -92,11 +94,11 @@ close =
     record {
       tag = "a=\"\"b=''";
       state = start;
-      marks = struck 34 (span 0 1) (span 3 3) (bytes "z") ∷ kept (SingleQ (span 4 5) (span 7 7)) ∷ [];
+      marks = struck 34 (span 0 1) (span 3 3) (bytes "z") ∷ kept (Some (Ok (SingleQ (span 4 5) (span 7 7)))) ∷ [];
       hurt = "a=zb=''";
       holds = true ∷ true ∷ true ∷ false ∷ true ∷ true ∷ [];
-      says = UnquotedValue 2 ∷ SingleQ (span 3 4) (span 6 6) ∷ [];
-      gives = UnquotedValue 2 ∷ [];
+      says = Some (Err (UnquotedValue 2)) ∷ Some (Ok (SingleQ (span 3 4) (span 6 6))) ∷ [];
+      gives = Some (Err (UnquotedValue 2)) ∷ [];
     }
 
 -- a run that starts with a quote
@@ -105,11 +107,11 @@ quote =
     record {
       tag = "a=\"\" b=''";
       state = start;
-      marks = struck 34 (span 0 1) (span 3 3) (bytes "''") ∷ kept (SingleQ (span 5 6) (span 8 8)) ∷ [];
+      marks = struck 34 (span 0 1) (span 3 3) (bytes "''") ∷ kept (Some (Ok (SingleQ (span 5 6) (span 8 8)))) ∷ [];
       hurt = "a='' b=''";
       holds = true ∷ true ∷ false ∷ true ∷ true ∷ true ∷ [];
-      says = UnquotedValue 2 ∷ SingleQ (span 5 6) (span 8 8) ∷ [];
-      gives = SingleQ (span 0 1) (span 3 3) ∷ SingleQ (span 5 6) (span 8 8) ∷ [];
+      says = Some (Err (UnquotedValue 2)) ∷ Some (Ok (SingleQ (span 5 6) (span 8 8))) ∷ [];
+      gives = Some (Ok (SingleQ (span 0 1) (span 3 3))) ∷ Some (Ok (SingleQ (span 5 6) (span 8 8))) ∷ [];
     }
 
 -- a run with whitespace
@@ -118,11 +120,11 @@ space =
     record {
       tag = "a=\"\" b=''";
       state = start;
-      marks = struck 34 (span 0 1) (span 3 3) (bytes "z c") ∷ kept (SingleQ (span 5 6) (span 8 8)) ∷ [];
+      marks = struck 34 (span 0 1) (span 3 3) (bytes "z c") ∷ kept (Some (Ok (SingleQ (span 5 6) (span 8 8)))) ∷ [];
       hurt = "a=z c b=''";
       holds = true ∷ false ∷ true ∷ true ∷ true ∷ true ∷ [];
-      says = UnquotedValue 2 ∷ SingleQ (span 6 7) (span 9 9) ∷ [];
-      gives = UnquotedValue 2 ∷ ExpectedEq 6 ∷ SingleQ (span 6 7) (span 9 9) ∷ [];
+      says = Some (Err (UnquotedValue 2)) ∷ Some (Ok (SingleQ (span 6 7) (span 9 9))) ∷ [];
+      gives = Some (Err (UnquotedValue 2)) ∷ Some (Err (ExpectedEq 6)) ∷ Some (Ok (SingleQ (span 6 7) (span 9 9))) ∷ [];
     }
 
 -- an empty run
@@ -131,11 +133,11 @@ empty =
     record {
       tag = "a=\"\" b=''";
       state = start;
-      marks = struck 34 (span 0 1) (span 3 3) [] ∷ kept (SingleQ (span 5 6) (span 8 8)) ∷ [];
+      marks = struck 34 (span 0 1) (span 3 3) [] ∷ kept (Some (Ok (SingleQ (span 5 6) (span 8 8)))) ∷ [];
       hurt = "a= b=''";
       holds = false ∷ true ∷ true ∷ true ∷ true ∷ true ∷ [];
-      says = UnquotedValue 2 ∷ SingleQ (span 3 4) (span 6 6) ∷ [];
-      gives = UnquotedValue 3 ∷ [];
+      says = Some (Err (UnquotedValue 2)) ∷ Some (Ok (SingleQ (span 3 4) (span 6 6))) ∷ [];
+      gives = Some (Err (UnquotedValue 3)) ∷ [];
     }
 
 -- a recorded key that points into the value: other bytes stand there then, and the kept hash is not theirs
@@ -144,11 +146,11 @@ recorded =
     record {
       tag = "a=\"b\" b='1'";
       state = record { place = Next 0; html = false; check_duplicates = true; starts = 3 ∷ replicate (capacity - 1) 0; ends = 4 ∷ replicate (capacity - 1) 0; hashes = hash_of (bytes "b") ∷ replicate (capacity - 1) 0; count = 1 };
-      marks = struck 34 (span 0 1) (span 3 4) (bytes "x") ∷ kept (Duplicated 6 3) ∷ [];
+      marks = struck 34 (span 0 1) (span 3 4) (bytes "x") ∷ kept (Some (Err (Duplicated 6 3))) ∷ [];
       hurt = "a=x b='1'";
       holds = true ∷ true ∷ true ∷ true ∷ true ∷ false ∷ [];
-      says = UnquotedValue 2 ∷ Duplicated 4 3 ∷ [];
-      gives = BadState ∷ [];
+      says = Some (Err (UnquotedValue 2)) ∷ Some (Err (Duplicated 4 3)) ∷ [];
+      gives = Some (Err BadState) ∷ [];
     }
 
 -- HTML mode
@@ -160,8 +162,8 @@ html =
       marks = struck 34 (span 0 1) (span 3 4) (bytes "x") ∷ [];
       hurt = "a=x";
       holds = true ∷ true ∷ true ∷ true ∷ false ∷ true ∷ [];
-      says = UnquotedValue 2 ∷ [];
-      gives = Unquoted (span 0 1) (span 2 3) ∷ [];
+      says = Some (Err (UnquotedValue 2)) ∷ [];
+      gives = Some (Ok (Unquoted (span 0 1) (span 2 3))) ∷ [];
     }
 
 -- what a row leaves to be computed: its old answers, the damaged tag, the premises, what the theorem says, what is read

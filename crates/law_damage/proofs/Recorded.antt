@@ -8,14 +8,13 @@ use lib.ListN.{length, get_or, set, length-set}
 use lib.Seq.{get_or-set_same, get_or-set_other}
 use lib.Dec.{eqb, ltb}
 use borrow.Author.Tests.{ltb-true, ltb-false, eqb-true, eqb-false}
+use Rattle.std.proofs.Common.{Option, Some, None, Result, Ok, Err}
 use Rattle.scan.specs.First.{first_to, pick}
 use Rattle.scan.specs.Bytes.{part}
 use Rattle.scan.proofs.Laws.{to_first, first_only}
 use Rattle.scan.proofs.Move.{pick_ap}
-use Rattle.tag_keys.specs.declared.Earlier.{Earlier}
-use Rattle.tag_keys.specs.declared.Earlier.TheVariants.{At, Nothing}
-use Rattle.tag_keys.specs.declared.Checked.{Checked}
-use Rattle.tag_keys.specs.declared.Checked.TheVariants.{Fresh, Same, Full}
+use Rattle.tag_keys.specs.declared.KeyRefusal.{KeyRefusal}
+use Rattle.tag_keys.specs.declared.KeyRefusal.TheVariants.{Same, Full}
 use Rattle.tag_keys.specs.Hash.{hash_of}
 use Rattle.tag_keys.specs.Keys.{capacity, name_at, same_key, oldest_of, earlier_of, checked_by, checked_of, written_by, count_by}
 use Rattle.tag_keys.proofs.Laws.{earlier_at, earlier_past}
@@ -23,14 +22,14 @@ use Rattle.tag_step.specs.declared.Span.{Span}
 use Rattle.tag_step.specs.Next.{Keys, check_of, kept_by}
 use Rattle.law_damage.specs.Damage.{move_span}
 
-abbrev pub move_earlier : (ℕ → ℕ) → Earlier → Earlier
-move_earlier f (At p) = At (f p)
-move_earlier f Nothing = Nothing
+abbrev pub move_earlier : (ℕ → ℕ) → Option ℕ → Option ℕ
+move_earlier f (Some p) = Some (f p)
+move_earlier f None = None
 
-abbrev pub move_checked : (ℕ → ℕ) → Checked → Checked
-move_checked f (Fresh n) = Fresh n
-move_checked f (Same p) = Same (f p)
-move_checked f Full = Full
+abbrev pub move_checked : (ℕ → ℕ) → Result ℕ KeyRefusal → Result ℕ KeyRefusal
+move_checked f (Ok n) = Ok n
+move_checked f (Err (Same p)) = Err (Same (f p))
+move_checked f (Err Full) = Err Full
 
 -- the keys of t are those of s, moved, with the same bytes
 pub record NamesLike (f : ℕ → ℕ) (s t : List ℕ) (ks kt : Keys) : Type 0 where
@@ -55,7 +54,7 @@ like_none f s t k z a b =
     }
 
 -- the search among recorded keys
-abbrev earlier_in : List ℕ → Keys → Span → Earlier
+abbrev earlier_in : List ℕ → Keys → Span → Option ℕ
 earlier_in s k key = earlier_of s k.starts k.ends k.count key.start key.end
 
 set_pick : (l : List ℕ) (c x k : ℕ) → c < length l → get_or (set l c x) k 0 ≡ pick (eqb k c) x (get_or l k 0)
@@ -88,21 +87,21 @@ module _ {f : ℕ → ℕ} {s t : List ℕ} {ks kt : Keys} (like : NamesLike f s
         → earlier_of t kt.starts kt.ends ks.count (f key.start) (f key.end) ≡ move_earlier f (earlier_in s ks key)
     by true e =
         let h = ltb-true _ _ e in
-        earlier_at t _ _ _ _ _ _ oldest_move h ∙ ap At (like.start _ h) ∙ sym (ap (move_earlier f) (earlier_at s _ _ _ _ _ _ refl h))
+        earlier_at t _ _ _ _ _ _ oldest_move h ∙ ap Some (like.start _ h) ∙ sym (ap (move_earlier f) (earlier_at s _ _ _ _ _ _ refl h))
     by false e =
         let h = ltb-false _ _ e in
         earlier_past t _ _ _ _ _ _ oldest_move h ∙ sym (ap (move_earlier f) (earlier_past s _ _ _ _ _ _ refl h))
 
-  by_move : (e : Earlier) → checked_by kt.count (move_earlier f e) ≡ move_checked f (checked_by ks.count e)
+  by_move : (e : Option ℕ) → checked_by kt.count (move_earlier f e) ≡ move_checked f (checked_by ks.count e)
   unfolding checked_by
-  by_move (At p) = refl
-  by_move Nothing = rw like.count (pick_ap (move_checked f) (ltb ks.count capacity) (Fresh (ks.count + 1)) Full)
+  by_move (Some p) = refl
+  by_move None = rw like.count (pick_ap (move_checked f) (ltb ks.count capacity) (Ok (ks.count + 1)) (Err Full))
 
   -- the verdict
   pub check_move : (checks : Bool) → check_of t checks kt (move_span f key) ≡ move_checked f (check_of s checks ks key)
   unfolding check_of checked_of
   check_move true = rw earlier_move (by_move _)
-  check_move false = ap Fresh like.count
+  check_move false = ap Ok like.count
 
 module _ {f : ℕ → ℕ} {s t : List ℕ} {ks kt : Keys} (like : KeysLike f s t ks kt) (key : Span) (alike : part s key.start key.end ≡ part t (f key.start) (f key.end)) where
   -- one key more, at index count
@@ -142,14 +141,14 @@ module _ {f : ℕ → ℕ} {s t : List ℕ} {ks kt : Keys} (like : KeysLike f s 
   unfolding check_of checked_of checked_by kept_by written_by count_by
   kept_move false = record { names = record { count = refl; start = like.names.start; bytes = like.names.bytes }; room_s = like.room_s; room_t = like.room_t }
   kept_move true = by (earlier_in s ks key) _ refl where
-    by : (e : Earlier) (b : Bool) → ltb ks.count capacity ≡ b
+    by : (e : Option ℕ) (b : Bool) → ltb ks.count capacity ≡ b
         → KeysLike f s t (kept_by s true ks key (checked_by ks.count e)) (kept_by t true kt (move_span f key) (move_checked f (checked_by ks.count e)))
-    by (At p) b h = like
-    by Nothing true h =
+    by (Some p) b h = like
+    by None true h =
         rw h
         (record {
           names = added_names (ltb-true _ _ h);
           room_s = (rw length-set like.room_s.0, rw length-set like.room_s.1);
           room_t = (rw length-set like.room_t.0, rw length-set like.room_t.1);
         })
-    by Nothing false h = rw h like
+    by None false h = rw h like

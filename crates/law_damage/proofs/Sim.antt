@@ -8,16 +8,17 @@ use native.Mathlib.Omega.{arith}
 use lib.ListN.{length, get_or}
 use lib.Dec.{ltb}
 use borrow.Author.Tests.{ltb-false}
+use Rattle.std.proofs.Common.{Option, Some, None}
+use Rattle.std.specs.Prelude.{Ok, Err}
 use Rattle.scan.specs.First.{first_from, pick}
 use Rattle.scan.specs.Bytes.{is_space, not_space}
 use Rattle.scan.proofs.Laws.{first, first_only, past}
 use Rattle.scan.proofs.Move.{Window, lt_back, f_suc, narrow, scan_to}
 use Rattle.tag_step.specs.declared.Span.{Span}
 use Rattle.tag_step.specs.declared.Place.TheVariants.{SkipValue}
-use Rattle.tag_step.specs.declared.Start.{Start}
-use Rattle.tag_step.specs.declared.Start.TheVariants.{From, Ended}
-use Rattle.tag_step.specs.declared.Answer.{Answer}
-use Rattle.tag_step.specs.declared.Answer.TheVariants.{End, DoubleQ, SingleQ, Unquoted, Empty, ExpectedEq, ExpectedValue, UnquotedValue, ExpectedQuote, Duplicated, KeyTableFull, BadState}
+use Rattle.tag_step.specs.Answer.{Answer}
+use Rattle.tag_step.specs.declared.Attr.TheVariants.{DoubleQ, SingleQ, Unquoted, Empty}
+use Rattle.tag_step.specs.declared.AttrError.TheVariants.{ExpectedEq, ExpectedValue, UnquotedValue, ExpectedQuote, Duplicated, KeyTableFull, BadState}
 use Rattle.tag_step.specs.Read.{found, is_quote, skip_to, skip_of, recover_of, quoted, closed_of, value_at}
 use Rattle.tag_step.specs.Next.{Keys, Reading, reading, check_of, kept_by, valued_by, valued_to, valued_of, read_key, read_at}
 use Rattle.tag_step.specs.Run.{is_end, cons_unless, run_from}
@@ -62,10 +63,10 @@ unfolding bound Apart
 bound_past len o [] h d = omega arith
 bound_past len o (c ∷ cs) h d = d.0
 
-pub bound_start : (len : ℕ) (x : Start) (cs : List Cut) → StartIn len x → ApartStart len x cs → start_at len x < bound len cs
+pub bound_start : (len : ℕ) (x : Option ℕ) (cs : List Cut) → StartIn len x → ApartStart len x cs → start_at len x < bound len cs
 unfolding bound StartIn
-bound_start len (From w) cs i d = bound_past len w cs i d
-bound_start len Ended cs i d = rw d (omega arith)
+bound_start len (Some w) cs i d = bound_past len w cs i d
+bound_start len None cs i d = rw d (omega arith)
 
 not_space_lem : (b : ℕ) → is_space b ≡ false → not_space b ≡ true
 unfolding not_space
@@ -93,7 +94,7 @@ module _ {f : ℕ → ℕ} {s t : List ℕ} {o : ℕ} {checks : Bool} {ks kt : K
   in_t : f v < length t
   in_t = omega (arith, put.size, fits.run.some, w₂.inside')
 
-  value_hurt : found (UnquotedValue (f v)) (SkipValue (f v)) ≡ value_at t false (move_span f key) (f eq)
+  value_hurt : found (Some (Err (UnquotedValue (f v)))) (SkipValue (f v)) ≡ value_at t false (move_span f key) (f eq)
   value_hurt = value_bad t false (move_span f key) (f eq) (f v) v_found in_t (ap is_quote head ∙ fits.run.plain) refl
 
   -- the keys that the step leaves
@@ -104,7 +105,7 @@ module _ {f : ℕ → ℕ} {s t : List ℕ} {o : ℕ} {checks : Bool} {ks kt : K
   unfolding hurt_keys
   keys_hurt = keeps_move w checks key eq cl.key_by (omega (arith, (closed_order cl).1)) like
 
-  read_hurt : read_at t false checks kt (f o) ≡ reading (found (UnquotedValue (f v)) (SkipValue (f v))) hurt_keys
+  read_hurt : read_at t false checks kt (f o) ≡ reading (found (Some (Err (UnquotedValue (f v)))) (SkipValue (f v))) hurt_keys
   unfolding hurt_keys read_at read_key valued_of valued_to valued_by
   read_hurt =
       let at : eq < v = (closed_order cl).1 in
@@ -124,24 +125,24 @@ module _ {f : ℕ → ℕ} {s t : List ℕ} {o : ℕ} {checks : Bool} {ks kt : K
             subst (λ (x : ℕ). is_space (get_or t x 0) ≡ false) z (ap is_space (put.bytes j (omega (arith, put.size))) ∙ fits.run.solid j (omega (arith, put.size)));
       })
 
-  recover_hurt : recover_of t (SkipValue (f v)) ≡ pick (ltb (e + 1) (length s)) (From (f (e + 1))) Ended
+  recover_hurt : recover_of t (SkipValue (f v)) ≡ pick (ltb (e + 1) (length s)) (Some (f (e + 1))) None
   unfolding recover_of skip_of skip_to
   recover_hurt = rw (skip_hurt, sym (w₂.same (e + 1) (omega arith) far).within)
 
 end_moved : (f : ℕ → ℕ) (a : Answer) → is_end (move_answer f a) ≡ is_end a
 unfolding move_answer is_end
-end_moved f End = refl
-end_moved f (DoubleQ k v) = refl
-end_moved f (SingleQ k v) = refl
-end_moved f (Unquoted k v) = refl
-end_moved f (Empty k) = refl
-end_moved f (ExpectedEq p) = refl
-end_moved f (ExpectedValue l) = refl
-end_moved f (UnquotedValue p) = refl
-end_moved f (ExpectedQuote l q) = refl
-end_moved f (Duplicated this earlier) = refl
-end_moved f (KeyTableFull this) = refl
-end_moved f BadState = refl
+end_moved f None = refl
+end_moved f (Some (Ok (DoubleQ k v))) = refl
+end_moved f (Some (Ok (SingleQ k v))) = refl
+end_moved f (Some (Ok (Unquoted k v))) = refl
+end_moved f (Some (Ok (Empty k))) = refl
+end_moved f (Some (Err (ExpectedEq p))) = refl
+end_moved f (Some (Err (ExpectedValue l))) = refl
+end_moved f (Some (Err (UnquotedValue p))) = refl
+end_moved f (Some (Err (ExpectedQuote l q))) = refl
+end_moved f (Some (Err (Duplicated this earlier))) = refl
+end_moved f (Some (Err (KeyTableFull this))) = refl
+end_moved f (Some (Err BadState)) = refl
 
 none_marked : (f : ℕ → ℕ) (ms : List Marked) → map was ms ≡ [] → map (becomes f) ms ≡ []
 none_marked f [] e = refl
@@ -154,10 +155,10 @@ unless_nil false a rest e = let z : ◌≡◌ {A = ℕ} 0 1 = cc in absurd (omeg
 
 module _ (f : ℕ → ℕ) (s t : List ℕ) (checks : Bool) where
   -- the answers of the tag, and of the damaged one
-  abbrev run_s : ℕ → Keys → Start → List Answer
+  abbrev run_s : ℕ → Keys → Option ℕ → List Answer
   run_s n k x = run_from n s false checks k x
 
-  abbrev run_t : ℕ → Keys → Start → List Answer
+  abbrev run_t : ℕ → Keys → Option ℕ → List Answer
   run_t n k x = run_from n t false checks k x
 
   -- what is to be shown of the answers that are left
@@ -166,8 +167,8 @@ module _ (f : ℕ → ℕ) (s t : List ℕ) (checks : Bool) where
       (ks kt : Keys) (o : ℕ)
       → KeysLike f s t ks kt
       → Rel f s t o (cuts ms)
-      → map was ms ≡ run_s n ks (From o)
-      → run_t n kt (From (f o)) ≡ map (becomes f) ms
+      → map was ms ≡ run_s n ks (Some o)
+      → run_t n kt (Some (f o)) ≡ map (becomes f) ms
 
   -- a step before the next cut
   step_like : (ks kt : Keys) (o : ℕ) (cs : List Cut) → KeysLike f s t ks kt → Rel f s t o cs
@@ -182,22 +183,22 @@ module _ (f : ℕ → ℕ) (s t : List ℕ) (checks : Bool) where
 
   -- the end comes in both
   at_end : (n : ℕ) (ks kt : Keys) (o : ℕ) → KeysLike f s t ks kt → Rel f s t o [] → is_end (read_at s false checks ks o).answer ≡ true
-      → run_t (suc n) kt (From (f o)) ≡ []
+      → run_t (suc n) kt (Some (f o)) ≡ []
   unfolding run_from cons_unless
   at_end n ks kt o like rel e =
       let y = step_like ks kt o [] like rel (none_apart (length s) (next_start s checks ks o)) in
       rw (y.0.answer, end_moved f (read_at s false checks ks o).answer, e)
 
   module _ (n : ℕ) (ms : List Marked) (later : Later n ms) where
-    later_start : (x : Start) (ks kt : Keys) (o : ℕ) → KeysLike f s t ks kt → Rel f s t o (cuts ms) → map was ms ≡ run_s n ks x
+    later_start : (x : Option ℕ) (ks kt : Keys) (o : ℕ) → KeysLike f s t ks kt → Rel f s t o (cuts ms) → map was ms ≡ run_s n ks x
         → StartPast (length s) o x → ApartStart (length s) x (cuts ms) → run_t n kt (move_start f x) ≡ map (becomes f) ms
     unfolding StartPast
-    later_start (From w) ks kt o like rel e past d = later ks kt w like (advance f s t o w (cuts ms) (omega arith) past.1 d rel) e
-    later_start Ended ks kt o like rel e past d = run_ended n t false checks kt ∙ sym (none_marked f ms (e ∙ run_ended n s false checks ks))
+    later_start (Some w) ks kt o like rel e past d = later ks kt w like (advance f s t o w (cuts ms) (omega arith) past.1 d rel) e
+    later_start None ks kt o like rel e past d = run_ended n t false checks kt ∙ sym (none_marked f ms (e ∙ run_ended n s false checks ks))
 
     -- after the damaged value reading goes on in both, or is at the end in both
-    after_hurt : (ks kt : Keys) (o : ℕ) → KeysLike f s t ks kt → Rel f s t o (cuts ms) → map was ms ≡ run_s n ks (From o)
-        → (b : Bool) → ltb o (length s) ≡ b → run_t n kt (pick b (From (f o)) Ended) ≡ map (becomes f) ms
+    after_hurt : (ks kt : Keys) (o : ℕ) → KeysLike f s t ks kt → Rel f s t o (cuts ms) → map was ms ≡ run_s n ks (Some o)
+        → (b : Bool) → ltb o (length s) ≡ b → run_t n kt (pick b (Some (f o)) None) ≡ map (becomes f) ms
     after_hurt ks kt o like rel rest true e = later ks kt o like rel rest
     after_hurt ks kt o like rel rest false e = run_ended n t false checks kt ∙ sym (none_marked f ms (rest ∙ run_end n s false checks ks o (ltb-false _ _ e)))
 
@@ -207,7 +208,7 @@ module _ (f : ℕ → ℕ) (s t : List ℕ) (checks : Bool) where
           → a ≡ (read_at s false checks ks o).answer
           → map was ms ≡ run_s n (next_keys s checks ks o) (next_start s checks ks o)
           → ApartStart (length s) (next_start s checks ks o) (cuts ms)
-          → run_t (suc n) kt (From (f o)) ≡ move_answer f a ∷ map (becomes f) ms
+          → run_t (suc n) kt (Some (f o)) ≡ move_answer f a ∷ map (becomes f) ms
       unfolding run_from cons_unless
       kept_moves a rel go e rest d =
           let x = read_at s false checks ks o in
@@ -218,9 +219,9 @@ module _ (f : ℕ → ℕ) (s t : List ℕ) (checks : Bool) where
       -- one that is struck, over the numbers found
       closed_hurt : (r : List ℕ) (key : Span) (eq v e : ℕ) → Closed s checks ks o key eq v e → Rel f s t o (cut_at v e r ∷ cuts ms)
           → Fits s (cut_at v e r)
-          → map was ms ≡ run_s n (kept_by s checks ks key (check_of s checks ks key)) (From (e + 1))
+          → map was ms ≡ run_s n (kept_by s checks ks key (check_of s checks ks key)) (Some (e + 1))
           → Apart (length s) (e + 1) (cuts ms)
-          → run_t (suc n) kt (From (f o)) ≡ UnquotedValue (f v) ∷ map (becomes f) ms
+          → run_t (suc n) kt (Some (f o)) ≡ Some (Err (UnquotedValue (f v))) ∷ map (becomes f) ms
       unfolding Rel run_from is_end cons_unless
       closed_hurt r key eq v e cl rel fits rest d =
           let w₂ = window_of f s t (e + 1) (cuts ms) rel.2 in
@@ -237,14 +238,14 @@ module _ (f : ℕ → ℕ) (s t : List ℕ) (checks : Bool) where
           → quoted q key value ≡ (read_at s false checks ks o).answer
           → map was ms ≡ run_s n (next_keys s checks ks o) (next_start s checks ks o)
           → ApartStart (length s) (next_start s checks ks o) (cuts ms)
-          → run_t (suc n) kt (From (f o)) ≡ UnquotedValue (f (whole_value value run).at) ∷ map (becomes f) ms
+          → run_t (suc n) kt (Some (f o)) ≡ Some (Err (UnquotedValue (f (whole_value value run).at))) ∷ map (becomes f) ms
       unfolding closed_of
       struck_hurt q key value run h rel fits =
           read_cut s checks ks o h q key value
           (λ (x : Reading).
           map was ms ≡ run_s n x.keys (recover_of s x.place)
           → ApartStart (length s) (recover_of s x.place) (cuts ms)
-          → run_t (suc n) kt (From (f o)) ≡ UnquotedValue (f (whole_value value run).at) ∷ map (becomes f) ms)
+          → run_t (suc n) kt (Some (f o)) ≡ Some (Err (UnquotedValue (f (whole_value value run).at))) ∷ map (becomes f) ms)
           (λ k eq v e cl same rest d.
           let l = cl.e_in in
           let z = sym (next_from s (e + 1) (omega arith)) in
@@ -252,7 +253,7 @@ module _ (f : ℕ → ℕ) (s t : List ℕ) (checks : Bool) where
           rw one
           (closed_hurt run k eq v e cl (rw one at rel) (rw one at fits)
           (rest ∙ ap (run_s n (kept_by s checks ks k (check_of s checks ks k))) z)
-          (subst (λ (x : Start). ApartStart (length s) x (cuts ms)) z d)))
+          (subst (λ (x : Option ℕ). ApartStart (length s) x (cuts ms)) z d)))
 
   next_apart : (n : ℕ) (ms : List Marked) (ks : Keys) (o : ℕ) → map was ms ≡ run_s n (next_keys s checks ks o) (next_start s checks ks o)
       → ApartStart (length s) (next_start s checks ks o) (cuts ms)

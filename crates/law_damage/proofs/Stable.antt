@@ -7,19 +7,19 @@ use native.Mathlib.Omega.{arith}
 use lib.ListN.{length, get_or, take, length-append, get_or-append}
 use lib.Seq.{length-take-le, get_or-take, take-take, ext_get_or}
 use borrow.Author.Tests.{lt-ltb}
+use Rattle.std.proofs.Common.{Result, Ok, Err, Option, Some, None}
 use Rattle.scan.specs.Bytes.{part}
 use Rattle.scan.proofs.Move.{Window, part_move}
-use Rattle.tag_keys.specs.declared.Checked.{Checked}
-use Rattle.tag_keys.specs.declared.Checked.TheVariants.{Fresh, Same, Full}
+use Rattle.tag_keys.specs.declared.KeyRefusal.{KeyRefusal}
+use Rattle.tag_keys.specs.declared.KeyRefusal.TheVariants.{Same, Full}
 use Rattle.tag_keys.specs.Keys.{KeysIn, table_good, name_at}
 use Rattle.tag_keys.proofs.Laws.{in_table, keys_longer}
 use Rattle.tag_step.specs.declared.Span.{Span}
 use Rattle.tag_step.specs.declared.Place.{Place}
 use Rattle.tag_step.specs.declared.Place.TheVariants.{Done, Next, SkipValue, SkipEqValue}
-use Rattle.tag_step.specs.declared.Start.{Start}
-use Rattle.tag_step.specs.declared.Start.TheVariants.{From, Ended}
-use Rattle.tag_step.specs.declared.Answer.{Answer}
-use Rattle.tag_step.specs.declared.Answer.TheVariants.{End, DoubleQ, SingleQ, Unquoted, Empty, ExpectedEq, ExpectedValue, UnquotedValue, ExpectedQuote, Duplicated, KeyTableFull, BadState}
+use Rattle.tag_step.specs.Answer.{Answer}
+use Rattle.tag_step.specs.declared.Attr.TheVariants.{DoubleQ, SingleQ, Unquoted, Empty}
+use Rattle.tag_step.specs.declared.AttrError.TheVariants.{ExpectedEq, ExpectedValue, UnquotedValue, ExpectedQuote, Duplicated, KeyTableFull, BadState}
 use Rattle.tag_step.specs.declared.Found.{Found}
 use Rattle.tag_step.specs.Read.{recover_of}
 use Rattle.tag_step.specs.Next.{Keys, Reading, check_of, kept_by, bare_by, bare_of, bare_to, valued_by, valued_of, valued_to, read_key, read_at, step_from, step_of, place_good, keys_of, state_good, next_of}
@@ -38,18 +38,18 @@ same n = n
 -- moved by nothing, all is as it was
 answer_same : (a : Answer) → move_answer same a ≡ a
 unfolding move_answer
-answer_same End = refl
-answer_same (DoubleQ k v) = refl
-answer_same (SingleQ k v) = refl
-answer_same (Unquoted k v) = refl
-answer_same (Empty k) = refl
-answer_same (ExpectedEq p) = refl
-answer_same (ExpectedValue l) = refl
-answer_same (UnquotedValue p) = refl
-answer_same (ExpectedQuote l q) = refl
-answer_same (Duplicated this earlier) = refl
-answer_same (KeyTableFull this) = refl
-answer_same BadState = refl
+answer_same None = refl
+answer_same (Some (Ok (DoubleQ k v))) = refl
+answer_same (Some (Ok (SingleQ k v))) = refl
+answer_same (Some (Ok (Unquoted k v))) = refl
+answer_same (Some (Ok (Empty k))) = refl
+answer_same (Some (Err (ExpectedEq p))) = refl
+answer_same (Some (Err (ExpectedValue l))) = refl
+answer_same (Some (Err (UnquotedValue p))) = refl
+answer_same (Some (Err (ExpectedQuote l q))) = refl
+answer_same (Some (Err (Duplicated this earlier))) = refl
+answer_same (Some (Err (KeyTableFull this))) = refl
+answer_same (Some (Err BadState)) = refl
 
 place_same : (p : Place) → move_place same p ≡ p
 unfolding move_place
@@ -58,10 +58,10 @@ place_same (Next o) = refl
 place_same (SkipValue o) = refl
 place_same (SkipEqValue o) = refl
 
-checked_same : (c : Checked) → move_checked same c ≡ c
-checked_same (Fresh n) = refl
-checked_same (Same p) = refl
-checked_same Full = refl
+checked_same : (c : Result ℕ KeyRefusal) → move_checked same c ≡ c
+checked_same (Ok n) = refl
+checked_same (Err (Same p)) = refl
+checked_same (Err Full) = refl
 
 found_same : (x : Found) → move_found same x ≡ x
 found_same x = rw (answer_same x.answer, place_same x.place)
@@ -102,7 +102,7 @@ module _ (s t : List ℕ) (m : ℕ) (agree : Agree s t m) where
         bytes = λ j h. part_move (window 0 (omega arith)) (get_or k.starts j 0) (get_or k.ends j 0) (omega arith) (omega (arith, (i.inside j h).0)) (omega (arith, (i.inside j h).1, front_length)) (omega (arith, (i.inside j h).1, front_length, agree.in_s));
       }
 
-  kept_same : (checks : Bool) (k : Keys) (key : Span) (c : Checked) → part s key.start key.end ≡ part t key.start key.end → kept_by t checks k key c ≡ kept_by s checks k key c
+  kept_same : (checks : Bool) (k : Keys) (key : Span) (c : Result ℕ KeyRefusal) → part s key.start key.end ≡ part t key.start key.end → kept_by t checks k key c ≡ kept_by s checks k key c
   unfolding kept_by
   kept_same checks k key c e = rw e
 
@@ -135,16 +135,16 @@ look_from_lem s html checks k o h =
 pub next_stable : NextStable
 unfolding look_of look_start next_of state_good keys_of step_of step_from
 next_stable s t m st agree b = by (recover_of s st.place) refl where
-  by : (x : Start) → recover_of s st.place ≡ x → look_start s st.html st.check_duplicates (keys_of st) x < m
+  by : (x : Option ℕ) → recover_of s st.place ≡ x → look_start s st.html st.check_duplicates (keys_of st) x < m
       → next_of t st ≡ next_of s st
-  by Ended e l = absurd (omega (arith, agree.in_s))
-  by (From o) e l =
+  by None e l = absurd (omega (arith, agree.in_s))
+  by (Some o) e l =
       let w = window s t m agree 0 (omega arith) in
       let x = begins s o st.place b.place e in
       let lt : o < m = omega (arith, look_from_lem s st.html st.check_duplicates (keys_of st) o (starts_in s st.place o e)) in
       let still = place_same st.place in
       let good : place_good t st.place ≡ true = ap (place_good t) (sym still) ∙ good_move w st.place (omega (arith, x.upto)) ∙ b.place in
-      let goes : recover_of t st.place ≡ From o = ap (recover_of t) (sym still) ∙ recover_move w st.place x.within (rw e lt) ∙ rw e in
+      let goes : recover_of t st.place ≡ Some o = ap (recover_of t) (sym still) ∙ recover_move w st.place x.within (rw e lt) ∙ rw e in
       let in_s = keys_there s t m agree s agree.in_s refl (keys_of st) b.keys in
       let in_t = keys_there s t m agree t agree.in_t (front_same s t m agree) (keys_of st) b.keys in
       rw (in_s, in_t, good, b.place, goes, e, read_same s t m agree st.html st.check_duplicates (keys_of st) o (omega arith) (names_like s t m agree (keys_of st) b.keys) l)

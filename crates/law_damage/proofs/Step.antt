@@ -7,20 +7,20 @@ use native.Mathlib.Omega.{arith}
 use lib.ListN.{length, get_or}
 use lib.Dec.{eqb, ltb}
 use borrow.Author.Tests.{lt-ltb, ltb-true, ltb-false, le-leb}
+use Rattle.std.proofs.Common.{Result, Ok, Err, Option, Some, None}
 use Rattle.scan.specs.First.{first_from, pick}
 use Rattle.scan.specs.Bytes.{is_space, not_space, ends_key, is_byte, part}
 use Rattle.scan.proofs.Laws.{first, picks}
 use Rattle.scan.proofs.Move.{pick_ap, Window, lt_move, ge_move, f_suc, le_move, end_move, scan_move, scan_next, part_move}
-use Rattle.tag_keys.specs.declared.Checked.{Checked}
-use Rattle.tag_keys.specs.declared.Checked.TheVariants.{Fresh, Same, Full}
+use Rattle.tag_keys.specs.declared.KeyRefusal.{KeyRefusal}
+use Rattle.tag_keys.specs.declared.KeyRefusal.TheVariants.{Same, Full}
 use Rattle.tag_step.specs.declared.Span.{Span}
 use Rattle.tag_step.specs.declared.Place.{Place}
 use Rattle.tag_step.specs.declared.Place.TheVariants.{Done, Next, SkipValue, SkipEqValue}
-use Rattle.tag_step.specs.declared.Start.{Start}
-use Rattle.tag_step.specs.declared.Start.TheVariants.{From, Ended}
 use Rattle.tag_step.specs.declared.KeyRead.{KeyRead}
-use Rattle.tag_step.specs.declared.KeyRead.TheVariants.{NoKey, Bare, Valued}
-use Rattle.tag_step.specs.declared.Answer.TheVariants.{DoubleQ, SingleQ, Unquoted, ExpectedValue, UnquotedValue, ExpectedQuote}
+use Rattle.tag_step.specs.declared.KeyRead.TheVariants.{Bare, Valued}
+use Rattle.tag_step.specs.declared.Attr.TheVariants.{DoubleQ, SingleQ, Unquoted}
+use Rattle.tag_step.specs.declared.AttrError.TheVariants.{ExpectedValue, UnquotedValue, ExpectedQuote}
 use Rattle.tag_step.specs.declared.Found.{Found}
 use Rattle.tag_step.specs.Read.{span, found, is_at, is_quote, skip_to, skip_of, recover_of, key_eq, key_to, key_from, key_at, quoted, closed_of, quoted_of, value_at}
 use Rattle.tag_step.specs.Next.{Keys, Reading, check_of, kept_by, place_at, bare_by, bare_to, bare_of, valued_by, valued_to, valued_of, read_key, read_at}
@@ -32,28 +32,28 @@ use Rattle.tag_step.proofs.Progress.{After}
 use Rattle.law_damage.specs.Damage.{move_span, move_answer, move_place}
 use Rattle.law_damage.proofs.Recorded.{NamesLike, KeysLike, move_checked, check_move, kept_move}
 
-abbrev pub move_key : (ℕ → ℕ) → KeyRead → KeyRead
-move_key f NoKey = NoKey
-move_key f (Bare key at) = Bare (move_span f key) (f at)
-move_key f (Valued key eq) = Valued (move_span f key) (f eq)
+abbrev pub move_key : (ℕ → ℕ) → Option KeyRead → Option KeyRead
+move_key f None = None
+move_key f (Some (Bare key at)) = Some (Bare (move_span f key) (f at))
+move_key f (Some (Valued key eq)) = Some (Valued (move_span f key) (f eq))
 
-abbrev pub move_start : (ℕ → ℕ) → Start → Start
-move_start f (From o) = From (f o)
-move_start f Ended = Ended
+abbrev pub move_start : (ℕ → ℕ) → Option ℕ → Option ℕ
+move_start f (Some o) = Some (f o)
+move_start f None = None
 
 abbrev pub move_found : (ℕ → ℕ) → Found → Found
 move_found f x = found (move_answer f x.answer) (move_place f x.place)
 
 -- how far the reading of a key looks
-abbrev reach : ℕ → KeyRead → ℕ
-reach len NoKey = len
-reach len (Bare key at) = at
-reach len (Valued key eq) = eq
+abbrev reach : ℕ → Option KeyRead → ℕ
+reach len None = len
+reach len (Some (Bare key at)) = at
+reach len (Some (Valued key eq)) = eq
 
 -- where reading goes on, or the length
-abbrev pub start_at : ℕ → Start → ℕ
-start_at len (From w) = w
-start_at len Ended = len
+abbrev pub start_at : ℕ → Option ℕ → ℕ
+start_at len (Some w) = w
+start_at len None = len
 
 -- the place is done, or lies at or after lo, and within the tag or at its end
 unfoldable pub PlaceIn : ℕ → ℕ → Place → Type 0
@@ -71,13 +71,13 @@ after_in s o (SkipEqValue x) a = (omega (arith, a.0), at_in s 61 x a.1)
 
 quoted_move : (f : ℕ → ℕ) (q : ℕ) (k v : Span) → move_answer f (quoted q k v) ≡ quoted q (move_span f k) (move_span f v)
 unfolding move_answer quoted
-quoted_move f q k v = sym (pick_ap (move_answer f) (eqb q 34) (DoubleQ k v) (SingleQ k v))
+quoted_move f q k v = sym (pick_ap (move_answer f) (eqb q 34) (Some (Ok (DoubleQ k v))) (Some (Ok (SingleQ k v))))
 
 -- a skip stops where reading goes on
 skip_stops : (s : List ℕ) (x : ℕ) → x ≤ length s → start_at (length s) (skip_of s x) ≡ first_from is_space s x
 unfolding skip_of skip_to
 skip_stops s x h =
-    picks (λ (y : Start). start_at (length s) y ≡ first_from is_space s x) (ltb (first_from is_space s x) (length s)) (λ e. refl)
+    picks (λ (y : Option ℕ). start_at (length s) y ≡ first_from is_space s x) (ltb (first_from is_space s x) (length s)) (λ e. refl)
     (λ e. omega (arith, ltb-false (first_from is_space s x) (length s) e, (first is_space s x h).inside))
 
 next_stops : (s : List ℕ) (x : ℕ) → x ≤ length s → start_at (length s) (recover_of s (Next x)) ≡ x
@@ -100,7 +100,7 @@ module _ {f : ℕ → ℕ} {s t : List ℕ} {o m : ℕ} (w : Window f s t o m) w
       let r = first_from is_space s x in
       let b : r < m = omega (arith, skip_stops s x h) in
       rw (scan_move w is_space x a h b, sym (w.same r (omega (arith, (first is_space s x h).ahead)) b).within)
-      (pick_ap (move_start f) (ltb r (length s)) (From r) Ended)
+      (pick_ap (move_start f) (ltb r (length s)) (Some r) None)
 
   pub recover_move : (p : Place) → PlaceIn (length s) o p → start_at (length s) (recover_of s p) < m
       → recover_of t (move_place f p) ≡ move_start f (recover_of s p)
@@ -123,18 +123,18 @@ module _ {f : ℕ → ℕ} {s t : List ℕ} {o m : ℕ} (w : Window f s t o m) w
       let e₁ : f end ≡ first_from ends_key t (f start + 1) = scan_next w ends_key start end b lo hi (omega (arith, fd.ahead)) in
       let e₂ : first_from not_space t (f end) ≡ f x = scan_move w not_space end (omega (arith, fb.ahead)) (omega (arith, fb.inside)) (omega arith) ∙ ap f (sym d) in
       rw (lt-ltb (f start) (length t) (lt_move w start lo lt hi), sym e₁, e₂, at_move 61 x (omega (arith, fb.ahead, fd.ahead)) h)
-      (pick_ap (move_key f) (is_at s 61 x) (Valued (span start end) x) (Bare (span start end) x))
+      (pick_ap (move_key f) (is_at s 61 x) (Some (Valued (span start end) x)) (Some (Bare (span start end) x)))
 
   reach_eq : (key : Span) (x : ℕ) → reach (length s) (key_eq s key x) < m → x < m
   unfolding key_eq
   reach_eq key x h = by (is_at s 61 x) h where
-    by : (b : Bool) → reach (length s) (pick b (Valued key x) (Bare key x)) < m → x < m
+    by : (b : Bool) → reach (length s) (pick b (Some (Valued key x)) (Some (Bare key x))) < m → x < m
     by true h = h
     by false h = h
 
   key_by : (start : ℕ) → first_from not_space s o ≡ start → (x : Bool) → ltb start (length s) ≡ x
-      → reach (length s) (pick x (key_to s start (first_from ends_key s (start + 1))) NoKey) < m
-      → key_from t (first_from not_space t (f o)) ≡ move_key f (pick x (key_to s start (first_from ends_key s (start + 1))) NoKey)
+      → reach (length s) (pick x (key_to s start (first_from ends_key s (start + 1))) None) < m
+      → key_from t (first_from not_space t (f o)) ≡ move_key f (pick x (key_to s start (first_from ends_key s (start + 1))) None)
   unfolding key_from key_to
   key_by start e true b h =
       let a = first not_space s o w.inside in
@@ -159,12 +159,12 @@ module _ {f : ℕ → ℕ} {s t : List ℕ} {o m : ℕ} (w : Window f s t o m) w
   unfolding place_at move_place
   place_move at a h = rw (sym (w.same at a h).within) (pick_ap (move_place f) (ltb at (length s)) (Next at) Done)
 
-  pub bare_move : (key : Span) (at : ℕ) (c : Checked) → o ≤ at → at < m
+  pub bare_move : (key : Span) (at : ℕ) (c : Result ℕ KeyRefusal) → o ≤ at → at < m
       → bare_by t (move_span f key) (f at) (move_checked f c) ≡ move_found f (bare_by s key at c)
   unfolding bare_by move_answer move_place
-  bare_move key at (Fresh n) a h = rw (place_move at a h)
-  bare_move key at (Same p) a h = rw (place_move at a h)
-  bare_move key at Full a h = refl
+  bare_move key at (Ok n) a h = rw (place_move at a h)
+  bare_move key at (Err (Same p)) a h = rw (place_move at a h)
+  bare_move key at (Err Full) a h = refl
 
   -- a value
   closed_move : (b : ℕ) (key : Span) (v e : ℕ) → o ≤ v → v < m → o ≤ e → e < m
@@ -188,7 +188,7 @@ module _ {f : ℕ → ℕ} {s t : List ℕ} {o m : ℕ} (w : Window f s t o m) w
     Moves : Found → Type 0
     Moves x = value_at t html (move_span f key) (f eq) ≡ move_found f x
 
-    same_none : length s ≤ v → v < m → Moves (found (ExpectedValue (length s)) Done)
+    same_none : length s ≤ v → v < m → Moves (found (Some (Err (ExpectedValue (length s)))) Done)
     unfolding Moves move_answer move_place
     same_none l k =
         sym (value_none t html (move_span f key) (f eq) (f v) (there k) (ge_move w v ov k l)) ∙ rw (end_move w (omega (arith, inside)))
@@ -213,7 +213,7 @@ module _ {f : ℕ → ℕ} {s t : List ℕ} {o m : ℕ} (w : Window f s t o m) w
           sym (quoted_closed t (get_or s v 0) (move_span f key) (f v + 1) (f e) (quote_there c) (lt_move w e (omega (arith, ov, ve)) c g) ∙ value_there c)
           ∙ closed_move (get_or s v 0) key v e ov (omega (arith, ve)) (omega (arith, ov, ve)) c
 
-      same_open : length s ≤ e → e < m → Moves (found (ExpectedQuote (length s) (get_or s v 0)) Done)
+      same_open : length s ≤ e → e < m → Moves (found (Some (Err (ExpectedQuote (length s) (get_or s v 0)))) Done)
       unfolding Moves move_answer move_place
       same_open g c =
           sym (quoted_open t (get_or s v 0) (move_span f key) (f v + 1) (f e) (quote_there c) (ge_move w e (omega (arith, ov, ve)) c g) ∙ value_there c)
@@ -223,31 +223,31 @@ module _ {f : ℕ → ℕ} {s t : List ℕ} {o m : ℕ} (w : Window f s t o m) w
     other_there n k = ap is_quote (sym (w.same v ov k).byte) ∙ n
 
     same_unquoted : (e : ℕ) → v < length s → is_quote (get_or s v 0) ≡ false → html ≡ true → e ≡ first_from is_space s v → e < m
-        → Moves (found (Unquoted key (span v e)) (Next e))
+        → Moves (found (Some (Ok (Unquoted key (span v e)))) (Next e))
     unfolding Moves move_answer move_place
     same_unquoted e l n mode i c =
         let k : v < m = omega (arith, (first is_space s v inside).ahead) in
         let z : f e ≡ first_from is_space t (f v) = ap f i ∙ sym (scan_move w is_space v ov inside (omega arith)) in
         sym (value_unquoted t html (move_span f key) (f eq) (f v) (there k) (lt_move w v ov k l) (other_there n k) mode (f e) z)
 
-    same_bad : v < length s → is_quote (get_or s v 0) ≡ false → html ≡ false → v < m → Moves (found (UnquotedValue v) (SkipValue v))
+    same_bad : v < length s → is_quote (get_or s v 0) ≡ false → html ≡ false → v < m → Moves (found (Some (Err (UnquotedValue v))) (SkipValue v))
     unfolding Moves move_answer move_place
     same_bad l n mode k = sym (value_bad t html (move_span f key) (f eq) (f v) (there k) (lt_move w v ov k l) (other_there n k) mode)
 
     value_move : look_value s html eq < m → Moves (value_at s html key eq)
     value_move = value_ways s html key eq v here (λ (x : Found) (n : ℕ). n < m → Moves x) same_none same_closed same_open same_unquoted same_bad
 
-    pub valued_move : (c : Checked) → look_by s html eq c < m
+    pub valued_move : (c : Result ℕ KeyRefusal) → look_by s html eq c < m
         → valued_by t html (move_span f key) (f eq) (move_checked f c) ≡ move_found f (valued_by s html key eq c)
     unfolding valued_by look_by move_answer move_place Moves
-    valued_move (Fresh n) c = value_move c
-    valued_move (Same p) c = refl
-    valued_move Full c = refl
+    valued_move (Ok n) c = value_move c
+    valued_move (Err (Same p)) c = refl
+    valued_move (Err Full) c = refl
 
 -- a value is looked at past its `=`
-pub look_past : (s : List ℕ) (html : Bool) (key : Span) (eq : ℕ) → eq < length s → (c : Checked) → eq ≤ look_by s html eq c
+pub look_past : (s : List ℕ) (html : Bool) (key : Span) (eq : ℕ) → eq < length s → (c : Result ℕ KeyRefusal) → eq ≤ look_by s html eq c
 unfolding look_by
-look_past s html key eq l (Fresh n) =
+look_past s html key eq l (Ok n) =
     let v = first_from not_space s (eq + 1) in
     let a = (first not_space s (eq + 1) (omega arith)).ahead in
     value_ways s html key eq v refl (λ (x : Found) (n : ℕ). eq ≤ n)
@@ -256,8 +256,8 @@ look_past s html key eq l (Fresh n) =
     (λ e l _ i _. omega (arith, (first (is_byte (get_or s v 0)) s (v + 1) (omega arith)).ahead))
     (λ e l _ _ i. omega (arith, (first is_space s v (omega arith)).ahead))
     (λ _ _ _. omega arith)
-look_past s html key eq l (Same p) = omega arith
-look_past s html key eq l Full = omega arith
+look_past s html key eq l (Err (Same p)) = omega arith
+look_past s html key eq l (Err Full) = omega arith
 
 -- the reading of t is that of s, moved
 pub record ReadLike (f : ℕ → ℕ) (s t : List ℕ) (x y : Reading) : Type 0 where
@@ -295,10 +295,10 @@ module _ {f : ℕ → ℕ} {s t : List ℕ} {o m : ℕ} (w : Window f s t o m) (
       (record { answer = refl; place = refl; keys = keeps_move w checks key eq i r like }))
 
 -- in XML mode a step looks no further than to where reading goes on
-valued_stops : (s : List ℕ) (key : Span) (eq : ℕ) → eq < length s → (c : Checked)
+valued_stops : (s : List ℕ) (key : Span) (eq : ℕ) → eq < length s → (c : Result ℕ KeyRefusal)
     → look_by s false eq c ≤ start_at (length s) (recover_of s (valued_by s false key eq c).place)
 unfolding valued_by look_by closed_of recover_of
-valued_stops s key eq l (Fresh n) =
+valued_stops s key eq l (Ok n) =
     let v = first_from not_space s (eq + 1) in
     let a = first not_space s (eq + 1) (omega arith) in
     value_ways s false key eq v refl (λ (x : Found) (n : ℕ). n ≤ start_at (length s) (recover_of s x.place))
@@ -307,8 +307,8 @@ valued_stops s key eq l (Fresh n) =
     (λ e l _ i g. omega (arith, (first (is_byte (get_or s v 0)) s (v + 1) (omega arith)).inside))
     (λ e l _ h i. absurd (false≢true h))
     (λ l _ _. omega (arith, skip_stops s v a.inside, (first is_space s v a.inside).ahead))
-valued_stops s key eq l (Same p) = omega (arith, skip_stops s eq (omega arith), (first is_space s eq (omega arith)).ahead)
-valued_stops s key eq l Full = omega arith
+valued_stops s key eq l (Err (Same p)) = omega (arith, skip_stops s eq (omega arith), (first is_space s eq (omega arith)).ahead)
+valued_stops s key eq l (Err Full) = omega arith
 
 pub read_stops : (s : List ℕ) (checks : Bool) (k : Keys) (o : ℕ) → o ≤ length s
     → look_at s false checks k o ≤ start_at (length s) (recover_of s (read_at s false checks k o).place)

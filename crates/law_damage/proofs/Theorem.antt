@@ -7,15 +7,15 @@ use mathlib.Core.List.{List, [], ◌∷◌, map}
 use native.Mathlib.Omega.{arith}
 use lib.ListN.{length, length-replicate}
 use lib.Seq.{ext_get_or}
+use Rattle.std.proofs.Common.{Option, Some, None}
+use Rattle.std.specs.Prelude.{Err}
 use Rattle.scan.specs.Bytes.{part}
 use Rattle.scan.proofs.Lists.{part_length, part_at}
 use Rattle.tag_keys.specs.Keys.{capacity, KeysIn, table_good}
 use Rattle.tag_keys.proofs.Laws.{in_table, keys_none}
 use Rattle.tag_step.specs.declared.Place.{Place}
 use Rattle.tag_step.specs.declared.Place.TheVariants.{Done, Next, SkipValue, SkipEqValue}
-use Rattle.tag_step.specs.declared.Start.{Start}
-use Rattle.tag_step.specs.declared.Start.TheVariants.{From, Ended}
-use Rattle.tag_step.specs.declared.Answer.TheVariants.{BadState}
+use Rattle.tag_step.specs.declared.AttrError.TheVariants.{BadState}
 use Rattle.tag_step.specs.declared.IterState.{IterState}
 use Rattle.tag_step.specs.declared.Step.{Step}
 use Rattle.tag_step.specs.Read.{recover_of}
@@ -77,15 +77,15 @@ abbrev state_of : Bool → Bool → Keys → Place → IterState
 state_of html checks k p = record { place = p; html = html; check_duplicates = checks; starts = k.starts; ends = k.ends; hashes = k.hashes; count = k.count }
 
 -- more budget than bytes changes nothing
-run_whole : (n : ℕ) (s : List ℕ) (checks : Bool) (k : Keys) (x : Start) → StartIn (length s) x → length s ≤ n
+run_whole : (n : ℕ) (s : List ℕ) (checks : Bool) (k : Keys) (x : Option ℕ) → StartIn (length s) x → length s ≤ n
     → run_from n s false checks k x ≡ answers_from s false checks k x
 unfolding answers_from
 run_whole n s checks k x i h =
     let e : length s + (n - length s) ≡ n = omega arith in
     rw e at (from_more (n - length s) (length s) s false checks k x i (most x)) where
-      most : (x : Start) → left (length s) x ≤ length s
-      most (From o) = omega arith
-      most Ended = omega arith
+      most : (x : Option ℕ) → left (length s) x ≤ length s
+      most (Some o) = omega arith
+      most None = omega arith
 
 -- The three ways to begin.
 
@@ -104,7 +104,7 @@ module _ (s : List ℕ) (checks : Bool) (k : Keys) (p : Place) (ms : List Marked
   resumes t g = answers_resume t reader sized (rw (table t) g)
 
   -- reading goes on
-  goes_on : (o : ℕ) → place_good s p ≡ true → recover_of s p ≡ From o → map was ms ≡ answers_from s false checks k (From o)
+  goes_on : (o : ℕ) → place_good s p ≡ true → recover_of s p ≡ Some o → map was ms ≡ answers_from s false checks k (Some o)
       → AllFit s (cuts ms) → Hurt s reader ms
   unfolding StartIn
   goes_on o g x e al =
@@ -113,8 +113,8 @@ module _ (s : List ℕ) (checks : Bool) (k : Keys) (p : Place) (ms : List Marked
       let b = begins s o p g x in
       let in_s = starts_in s p o x in
       let n = length s + length t in
-      let run-s = run_whole n s checks k (From o) in_s (omega arith) in
-      let d = cuts_apart n s checks k (From o) ms in_s (e ∙ sym run-s) in
+      let run-s = run_whole n s checks k (Some o) in_s (omega arith) in
+      let d = cuts_apart n s checks k (Some o) ms in_s (e ∙ sym run-s) in
       let d₀ = apart_before (length s) 0 o (cuts ms) (omega arith) d in
       let w₀ = window_of f s t 0 (cuts ms) (rel_of s 0 (cuts ms) (omega arith) d₀) in
       let rel = rel_of s o (cuts ms) in_s d in
@@ -122,16 +122,16 @@ module _ (s : List ℕ) (checks : Bool) (k : Keys) (p : Place) (ms : List Marked
       let in_t = (window_of f s t o (cuts ms) rel).inside' in
       let stays = place_stays (length s) o (cuts ms) p d b.upto in
       let good : place_good t p ≡ true = ap (place_good t) (sym stays) ∙ good_move w₀ p (omega (arith, b.upto)) ∙ g in
-      let goes : recover_of t p ≡ From (f o) = ap (recover_of t) (sym stays) ∙ recover_move w₀ p b.within (subst (λ (y : Start). start_at (length s) y < bound (length s) (cuts ms)) (sym x) far) ∙ ap (move_start f) x in
-      let said : (g : ℕ → ℕ) → Rel g s t o (cuts ms) → run_from n t false checks k (From (g o)) ≡ map (becomes g) ms = λ g r. sim g s t checks n ms al k k o (like_none g s t k none starts ends) r (e ∙ sym run-s) in
+      let goes : recover_of t p ≡ Some (f o) = ap (recover_of t) (sym stays) ∙ recover_move w₀ p b.within (subst (λ (y : Option ℕ). start_at (length s) y < bound (length s) (cuts ms)) (sym x) far) ∙ ap (move_start f) x in
+      let said : (g : ℕ → ℕ) → Rel g s t o (cuts ms) → run_from n t false checks k (Some (g o)) ≡ map (becomes g) ms = λ g r. sim g s t checks n ms al k k o (like_none g s t k none starts ends) r (e ∙ sym run-s) in
       record {
-        answers = resumes t good ∙ ap (answers_from t false checks k) goes ∙ sym (run_whole n t checks k (From (f o)) in_t (omega arith)) ∙ said f rel;
+        answers = resumes t good ∙ ap (answers_from t false checks k) goes ∙ sym (run_whole n t checks k (Some (f o)) in_t (omega arith)) ∙ said f rel;
         signed = signed_by (length s) o (cuts ms) d;
         stands = runs_stand f s t o (cuts ms) rel;
         apart = d₀;
         clear = λ g as-f.
             let same : g o ≡ f o = as-f o (outside_before (length s) o o (cuts ms) d (omega arith)) in
-            sym (said g (rel_as f g s t o (cuts ms) in_s d (λ q _. as-f q) rel)) ∙ ap (λ (y : ℕ). run_from n t false checks k (From y)) same ∙ said f rel;
+            sym (said g (rel_as f g s t o (cuts ms) in_s d (λ q _. as-f q) rel)) ∙ ap (λ (y : ℕ). run_from n t false checks k (Some y)) same ∙ said f rel;
         begins = stays;
       }
 
@@ -144,7 +144,7 @@ module _ (s : List ℕ) (checks : Bool) (k : Keys) (p : Place) (ms : List Marked
     by (m ∷ ms) z e = let y : ◌≡◌ {A = ℕ} 0 1 = cc in absurd (omega arith)
 
   -- 7 answers, and then there is no more
-  bad_answers : place_good s p ≡ false → answers_of s reader ≡ BadState ∷ []
+  bad_answers : place_good s p ≡ false → answers_of s reader ≡ Some (Err BadState) ∷ []
   unfolding answers_of run_of state_good leaves bad_reading is_end cons_unless recover_of
   bad_answers g =
       let e = next_bad s reader (rw (table s) g) in
@@ -159,19 +159,19 @@ module _ (s : List ℕ) (checks : Bool) (k : Keys) (p : Place) (ms : List Marked
   bad : place_good s p ≡ false → map was ms ≡ answers_of s reader → Hurt s reader ms
   unfolding cuts was becomes move_answer
   bad g e = by ms (e ∙ bad_answers g) e where
-    by : (ms : List Marked) → map was ms ≡ BadState ∷ [] → map was ms ≡ answers_of s reader → Hurt s reader ms
+    by : (ms : List Marked) → map was ms ≡ Some (Err BadState) ∷ [] → map was ms ≡ answers_of s reader → Hurt s reader ms
     by [] z e = let y : ◌≡◌ {A = ℕ} 0 1 = cc in absurd (omega arith)
     by (kept a ∷ []) z e =
-        let same : a ≡ BadState = cc in
+        let same : a ≡ Some (Err BadState) = cc in
         nothing_cut s reader (kept a ∷ []) refl (λ f. rw same) e
     by (struck q key value run ∷ []) z e = absurd (quoted_good q key value cc)
     by (m ∷ n ∷ ms) z e = let y : ◌≡◌ {A = ℕ} 0 1 = cc in absurd (omega arith)
 
-  starts_from : (x : Start) → place_good s p ≡ true → recover_of s p ≡ x → map was ms ≡ answers_of s reader → AllFit s (cuts ms)
+  starts_from : (x : Option ℕ) → place_good s p ≡ true → recover_of s p ≡ x → map was ms ≡ answers_of s reader → AllFit s (cuts ms)
       → Hurt s reader ms
   unfolding answers_from
-  starts_from (From o) g x e al = goes_on o g x (e ∙ resumes s g ∙ ap (answers_from s false checks k) x) al
-  starts_from Ended g x e al = ended (e ∙ resumes s g ∙ ap (answers_from s false checks k) x ∙ run_ended (length s) s false checks k) e
+  starts_from (Some o) g x e al = goes_on o g x (e ∙ resumes s g ∙ ap (answers_from s false checks k) x) al
+  starts_from None g x e al = ended (e ∙ resumes s g ∙ ap (answers_from s false checks k) x ∙ run_ended (length s) s false checks k) e
 
   moves : map was ms ≡ answers_of s reader → AllFit s (cuts ms) → Hurt s reader ms
   moves e al = by (place_good s p) refl where

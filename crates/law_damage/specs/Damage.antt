@@ -3,15 +3,16 @@
 -- whitespace or the end after its closing quote; replace each whole quoted value by a nonempty run without whitespace
 -- that starts with neither quote. Each damaged one then answers UnquotedValue at its run's first byte; every other answer
 -- is the old one, in order, each position moved by the signed sum of the length changes before it.
-use Rattle.std.specs.Prelude.{ℕ, ◌+◌, ◌-◌, ◌≤◌, ◌<◌, ◌≡◌, true, false, ◌⊎◌, List, [], ◌∷◌, ◌++◌, map, length, get_or, drop, leb}
+use Rattle.std.specs.Prelude.{ℕ, ◌+◌, ◌-◌, ◌≤◌, ◌<◌, ◌≡◌, true, false, ◌⊎◌, List, [], ◌∷◌, ◌++◌, map, length, get_or, drop, leb, None, Some, Ok, Err}
 use Rattle.scan.specs.First.{pick}
 use Rattle.scan.specs.Bytes.{is_space, part}
 use Rattle.tag_keys.specs.Keys.{capacity}
 use Rattle.tag_step.specs.declared.Span.{Span}
 use Rattle.tag_step.specs.declared.Place.{Place}
 use Rattle.tag_step.specs.declared.Place.TheVariants.{Done, Next, SkipValue, SkipEqValue}
-use Rattle.tag_step.specs.declared.Answer.{Answer}
-use Rattle.tag_step.specs.declared.Answer.TheVariants.{End, DoubleQ, SingleQ, Unquoted, Empty, ExpectedEq, ExpectedValue, UnquotedValue, ExpectedQuote, Duplicated, KeyTableFull, BadState}
+use Rattle.tag_step.specs.Answer.{Answer}
+use Rattle.tag_step.specs.declared.Attr.TheVariants.{DoubleQ, SingleQ, Unquoted, Empty}
+use Rattle.tag_step.specs.declared.AttrError.TheVariants.{ExpectedEq, ExpectedValue, UnquotedValue, ExpectedQuote, Duplicated, KeyTableFull, BadState}
 use Rattle.tag_step.specs.declared.IterState.{IterState}
 use Rattle.tag_step.specs.Read.{span, is_quote, quoted}
 use Rattle.tag_step.specs.Run.{answers_of}
@@ -102,18 +103,18 @@ abbrev pub move_span : (ℕ → ℕ) → Span → Span
 move_span f k = span (f k.start) (f k.end)
 
 unfoldable pub move_answer : (ℕ → ℕ) → Answer → Answer
-move_answer f End = End
-move_answer f (DoubleQ k v) = DoubleQ (move_span f k) (move_span f v)
-move_answer f (SingleQ k v) = SingleQ (move_span f k) (move_span f v)
-move_answer f (Unquoted k v) = Unquoted (move_span f k) (move_span f v)
-move_answer f (Empty k) = Empty (move_span f k)
-move_answer f (ExpectedEq p) = ExpectedEq (f p)
-move_answer f (ExpectedValue l) = ExpectedValue (f l)
-move_answer f (UnquotedValue p) = UnquotedValue (f p)
-move_answer f (ExpectedQuote l q) = ExpectedQuote (f l) q
-move_answer f (Duplicated this earlier) = Duplicated (f this) (f earlier)
-move_answer f (KeyTableFull this) = KeyTableFull (f this)
-move_answer f BadState = BadState
+move_answer f None = None
+move_answer f (Some (Ok (DoubleQ k v))) = Some (Ok (DoubleQ (move_span f k) (move_span f v)))
+move_answer f (Some (Ok (SingleQ k v))) = Some (Ok (SingleQ (move_span f k) (move_span f v)))
+move_answer f (Some (Ok (Unquoted k v))) = Some (Ok (Unquoted (move_span f k) (move_span f v)))
+move_answer f (Some (Ok (Empty k))) = Some (Ok (Empty (move_span f k)))
+move_answer f (Some (Err (ExpectedEq p))) = Some (Err (ExpectedEq (f p)))
+move_answer f (Some (Err (ExpectedValue l))) = Some (Err (ExpectedValue (f l)))
+move_answer f (Some (Err (UnquotedValue p))) = Some (Err (UnquotedValue (f p)))
+move_answer f (Some (Err (ExpectedQuote l q))) = Some (Err (ExpectedQuote (f l) q))
+move_answer f (Some (Err (Duplicated this earlier))) = Some (Err (Duplicated (f this) (f earlier)))
+move_answer f (Some (Err (KeyTableFull this))) = Some (Err (KeyTableFull (f this)))
+move_answer f (Some (Err BadState)) = Some (Err BadState)
 
 unfoldable pub move_place : (ℕ → ℕ) → Place → Place
 move_place f Done = Done
@@ -125,7 +126,7 @@ move_place f (SkipEqValue o) = SkipEqValue (f o)
 -- run's first byte stands where the opening quote has moved to (`stands`, below).
 unfoldable pub becomes : (ℕ → ℕ) → Marked → Answer
 becomes f (kept a) = move_answer f a
-becomes f (struck q key value run) = UnquotedValue (f (value.start - 1))
+becomes f (struck q key value run) = Some (Err (UnquotedValue (f (value.start - 1))))
 
 -- The theorem.
 

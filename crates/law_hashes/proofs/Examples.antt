@@ -7,10 +7,10 @@ use mathlib.Core.List.{List, [], ◌∷◌}
 use native.Mathlib.Omega.{arith}
 use lib.ListN.{length, replicate}
 use lib.Dec.{eqb}
+use Rattle.std.proofs.Common.{Some, None, Ok, Err}
 use Rattle.scan.specs.First.{first_of, first_to}
 use Rattle.scan.specs.Bytes.{part, same_bytes, bytes_from, bytes}
-use Rattle.tag_keys.specs.declared.Earlier.TheVariants.{At, Nothing}
-use Rattle.tag_keys.specs.declared.Checked.TheVariants.{Fresh, Same}
+use Rattle.tag_keys.specs.declared.KeyRefusal.TheVariants.{Same}
 use Rattle.tag_keys.specs.Keys.{capacity, name_at, same_key, oldest_of, earlier_of, checked_by, checked_of, written_by, count_by}
 use Rattle.law_hashes.specs.Hash.{unset, held, insert, Key, asked, hashed_earlier_of, Covers, crate_earlier_of, hashes_after, crate_checks_of, checks_of}
 use Rattle.law_hashes.proofs.Hash.{any_hash_agrees, crate_way_agrees, crate_way_keeps, crate_run_agrees}
@@ -43,9 +43,9 @@ ones_cover = record { has = by } where
 
 -- c has the same hash and is new all the same; a is found; the hash of bb is not in the set
 pub any_hash_example :
-    (hashed_earlier_of hash ones tag starts ends 2 4 5 ≡ Nothing)
-    × (hashed_earlier_of hash ones tag starts ends 2 6 7 ≡ At 0)
-    × (hashed_earlier_of hash ones tag starts ends 2 8 10 ≡ Nothing)
+    (hashed_earlier_of hash ones tag starts ends 2 4 5 ≡ None)
+    × (hashed_earlier_of hash ones tag starts ends 2 6 7 ≡ Some 0)
+    × (hashed_earlier_of hash ones tag starts ends 2 8 10 ≡ None)
 unfolding first_of first_to part same_bytes bytes_from bytes name_at same_key oldest_of earlier_of
 any_hash_example = (
   any_hash_agrees hash ones tag starts ends 2 4 5 ones_cover,
@@ -54,7 +54,7 @@ any_hash_example = (
 )
 
 -- with no set yet, and with that one
-pub crate_way_example : (crate_earlier_of hash 2 unset tag starts ends 2 6 7 ≡ At 0) × (crate_earlier_of hash 2 (held ones) tag starts ends 2 4 5 ≡ Nothing)
+pub crate_way_example : (crate_earlier_of hash 2 unset tag starts ends 2 6 7 ≡ Some 0) × (crate_earlier_of hash 2 (held ones) tag starts ends 2 4 5 ≡ None)
 unfolding first_of first_to part same_bytes bytes_from bytes name_at same_key oldest_of earlier_of
 crate_way_example = (
   crate_way_agrees hash 2 unset tag starts ends 2 6 7 tt,
@@ -70,6 +70,6 @@ abbrev key : ℕ → ℕ → Key
 key from to = record { from = from; to = to }
 
 -- all five, from no recorded keys: the fourth is the first again
-pub crate_run_example : crate_checks_of hash 2 (key 0 1 ∷ key 2 3 ∷ key 4 5 ∷ key 6 7 ∷ key 8 10 ∷ []) unset tag (replicate capacity 0) (replicate capacity 0) 0 ≡ Fresh 1 ∷ Fresh 2 ∷ Fresh 3 ∷ Same 0 ∷ Fresh 4 ∷ []
+pub crate_run_example : crate_checks_of hash 2 (key 0 1 ∷ key 2 3 ∷ key 4 5 ∷ key 6 7 ∷ key 8 10 ∷ []) unset tag (replicate capacity 0) (replicate capacity 0) 0 ≡ Ok 1 ∷ Ok 2 ∷ Ok 3 ∷ Err (Same 0) ∷ Ok 4 ∷ []
 unfolding first_of first_to part same_bytes bytes_from bytes name_at same_key oldest_of earlier_of checked_by checked_of written_by count_by checks_of
 crate_run_example = crate_run_agrees hash 2 (key 0 1 ∷ key 2 3 ∷ key 4 5 ∷ key 6 7 ∷ key 8 10 ∷ []) unset tag (replicate capacity 0) (replicate capacity 0) 0 tt (record { places = (omega arith, omega arith) })

@@ -8,9 +8,9 @@ use mathlib.Core.List.{List, [], ◌∷◌, ◌++◌}
 use native.Mathlib.Nat.{mod-lt}
 use native.Mathlib.Omega.{arith}
 use lib.ListN.{length}
+use Rattle.std.proofs.Common.{Some, None}
 use Rattle.scan.specs.First.{first_of, first_to}
 use Rattle.scan.specs.Bytes.{part, same_bytes, bytes_from, bytes}
-use Rattle.tag_keys.specs.declared.Earlier.TheVariants.{At, Nothing}
 use Rattle.tag_keys.specs.Hash.{times_prime, hash_from, hash_of}
 use Rattle.tag_keys.specs.Keys.{name_at, same_key, oldest_of, earlier_of}
 use Rattle.tag_keys.specs.Filter.{passes, filtered_of}
@@ -83,8 +83,8 @@ module _ (h : List ℕ → ℕ) (one other : String) where
   pub record Apart : Type 0 where
     pub number : h first ≡ h second
     pub pass : passes h tag starts ends from to 0 ≡ true
-    pub new : filtered_of h tag starts ends 1 from to ≡ Nothing
-    pub found : filtered_of h tag starts ends 2 again (again + length first) ≡ At 0
+    pub new : filtered_of h tag starts ends 1 from to ≡ None
+    pub found : filtered_of h tag starts ends 2 again (again + length first) ≡ Some 0
 
 -- four pairs under 8 bits
 pub eight_bits_apart : Apart hash8 "m" "va" × Apart hash8 "c" "ib" × Apart hash8 "n" "vb" × Apart hash8 "b" "ic"
@@ -115,8 +115,8 @@ eight_bits = record { of = hash8; fits = λ name. omega (arith, mod-lt (hash_of 
 
 pub crate_hash_example :
     (asked hash8 unset (bytes "m va m") (0 ∷ []) (1 ∷ []) 1 (hash8 (bytes "va")) ≡ true)
-    × (crate_earlier_of hash8 1 unset (bytes "m va m") (0 ∷ []) (1 ∷ []) 1 2 4 ≡ Nothing)
-    × (crate_earlier_of hash8 1 unset (bytes "m va m") (0 ∷ 2 ∷ []) (1 ∷ 4 ∷ []) 2 5 6 ≡ At 0)
+    × (crate_earlier_of hash8 1 unset (bytes "m va m") (0 ∷ []) (1 ∷ []) 1 2 4 ≡ None)
+    × (crate_earlier_of hash8 1 unset (bytes "m va m") (0 ∷ 2 ∷ []) (1 ∷ 4 ∷ []) 2 5 6 ≡ Some 0)
 unfolding eight_bits first_of first_to part same_bytes bytes_from bytes times_prime hash_from hash_of hash8 name_at same_key oldest_of earlier_of seeded asked
 crate_hash_example = (
   refl,

@@ -12,13 +12,12 @@ use lib.ListN.{length, set}
 use lib.Seq.{get_or-set_same, get_or-set_other}
 use lib.Dec.{eqb, ltb, leb}
 use borrow.Author.Tests.{lt-ltb, ltb-true, ltb-false, leb-true, leb-false, eq-eqb}
+use Rattle.std.proofs.Common.{Option, Some, None, Result, Ok, Err}
 use Rattle.scan.specs.First.{first_to, pick}
 use Rattle.scan.specs.Bytes.{part}
 use Rattle.scan.proofs.Laws.{IsFirst, to_first}
-use Rattle.tag_keys.specs.declared.Earlier.{Earlier}
-use Rattle.tag_keys.specs.declared.Earlier.TheVariants.{At, Nothing}
-use Rattle.tag_keys.specs.declared.Checked.{Checked}
-use Rattle.tag_keys.specs.declared.Checked.TheVariants.{Fresh, Full}
+use Rattle.tag_keys.specs.declared.KeyRefusal.{KeyRefusal}
+use Rattle.tag_keys.specs.declared.KeyRefusal.TheVariants.{Full}
 use Rattle.tag_keys.specs.Keys.{capacity, name_at, earlier_of, checked_by, checked_of, written_by, count_by}
 use Rattle.law_hashes.specs.Hash.{Hashes, unset, held, insert, Room, Key, seeded, asked, hashed_earlier_of, Covers, crate_earlier_of, hashes_after, Kept, crate_checks_of, checks_of}
 use Rattle.tag_keys.proofs.Laws.{earlier_none, written_length}
@@ -60,16 +59,16 @@ first_below p n k lt t = by (ltb k (first_to p 0 n)) refl where
       omega arith
 
 -- no verdict makes the recorded keys fewer
-count_grows : (count : ℕ) (e : Earlier) → count ≤ count_by (checked_by count e) count
+count_grows : (count : ℕ) (e : Option ℕ) → count ≤ count_by (checked_by count e) count
 unfolding checked_by count_by
-count_grows count (At p) = omega arith
-count_grows count Nothing = by (ltb count capacity) where
-  by : (t : Bool) → count ≤ count_by (pick t (Fresh (count + 1)) Full) count
+count_grows count (Some p) = omega arith
+count_grows count None = by (ltb count capacity) where
+  by : (t : Bool) → count ≤ count_by (pick t (Ok (count + 1)) (Err Full)) count
   by true = omega arith
   by false = omega arith
 
 -- no verdict takes places away
-room_after : (v : Checked) (starts ends : List ℕ) (count from to : ℕ) → Room starts ends → Room (written_by true v starts count from) (written_by true v ends count to)
+room_after : (v : Result ℕ KeyRefusal) (starts ends : List ℕ) (count from to : ℕ) → Room starts ends → Room (written_by true v starts count from) (written_by true v ends count to)
 room_after v starts ends count from to r =
     record { places = (omega (arith, r.places, written_length true v starts count from), omega (arith, r.places, written_length true v ends count to)) }
 
@@ -100,7 +99,7 @@ module _ (h : List ℕ → ℕ) where
   pub any_hash_agrees : (s : ℕ → Bool) (tag starts ends : List ℕ) (count from to : ℕ) → Covers h s tag starts ends count → hashed_earlier_of h s tag starts ends count from to ≡ earlier_of tag starts ends count from to
   unfolding hashed_earlier_of
   any_hash_agrees s tag starts ends count from to c = by (s (h (part tag from to))) refl where
-    by : (t : Bool) → s (h (part tag from to)) ≡ t → pick t (earlier_of tag starts ends count from to) Nothing ≡ earlier_of tag starts ends count from to
+    by : (t : Bool) → s (h (part tag from to)) ≡ t → pick t (earlier_of tag starts ends count from to) None ≡ earlier_of tag starts ends count from to
     by true e = refl
     by false e =
         sym (earlier_none tag starts ends count from to
@@ -123,14 +122,14 @@ module _ (h : List ℕ → ℕ) where
   asked_covers small (held s) tag starts ends count k = k.1
 
   -- Whatever the verdict, the set with the key's hash holds the hash of every name that is recorded then.
-  pub covers_after : (s : ℕ → Bool) (tag starts ends : List ℕ) (count from to : ℕ) (e : Earlier) → Room starts ends → Covers h s tag starts ends count →
+  pub covers_after : (s : ℕ → Bool) (tag starts ends : List ℕ) (count from to : ℕ) (e : Option ℕ) → Room starts ends → Covers h s tag starts ends count →
       let v = checked_by count e in
       Covers h (insert s (h (part tag from to))) tag (written_by true v starts count from) (written_by true v ends count to) (count_by v count)
   unfolding checked_by written_by count_by
-  covers_after s tag starts ends count from to (At p) r c = covers_insert s (h (part tag from to)) tag starts ends count c
-  covers_after s tag starts ends count from to Nothing r c = by (ltb count capacity) refl where
+  covers_after s tag starts ends count from to (Some p) r c = covers_insert s (h (part tag from to)) tag starts ends count c
+  covers_after s tag starts ends count from to None r c = by (ltb count capacity) refl where
     by : (t : Bool) → ltb count capacity ≡ t →
-        let v = pick t (Fresh (count + 1)) Full in
+        let v = pick t (Ok (count + 1)) (Err Full) in
         Covers h (insert s (h (part tag from to))) tag (written_by true v starts count from) (written_by true v ends count to) (count_by v count)
     by true f =
         let few = ltb-true count capacity f in
@@ -171,7 +170,7 @@ module _ (h : List ℕ → ℕ) where
   crate_run_agrees small (k ∷ ks) s tag starts ends count kept r =
       let v = checked_of tag true starts ends count k.from k.to in
       rw (crate_way_agrees small s tag starts ends count k.from k.to kept)
-      (ap (λ (vs : List Checked). v ∷ vs)
+      (ap (λ (vs : List (Result ℕ KeyRefusal)). v ∷ vs)
       (crate_run_agrees small ks (hashes_after h small s tag starts ends count k.from k.to) tag (written_by true v starts count k.from) (written_by true v ends count k.to) (count_by v count)
       (crate_way_keeps small s tag starts ends count k.from k.to kept r)
       (room_after v starts ends count k.from k.to r)))

@@ -1,12 +1,10 @@
 -- The crate's way with many keys, for any function h from names to numbers: `check_for_duplicates` and
 -- `check_for_duplicates_hashed`, src/events/attributes.rs. From a number of recorded keys on, `small`, a set of their
 -- hashes is asked first. It is not ported; proofs/Hash.antt shows that it answers as the plain search does.
-use Rattle.std.specs.Prelude.{ℕ, ◌≤◌, ◌<◌, ◌≡◌, Bool, true, ◌||◌, List, [], ◌∷◌, length, eqb, ltb, leb}
+use Rattle.std.specs.Prelude.{ℕ, ◌≤◌, ◌<◌, ◌≡◌, Bool, true, ◌||◌, List, [], ◌∷◌, length, eqb, ltb, leb, Option, None, Result}
 use Rattle.scan.specs.First.{first_to, pick}
 use Rattle.scan.specs.Bytes.{part}
-use Rattle.tag_keys.specs.declared.Earlier.{Earlier}
-use Rattle.tag_keys.specs.declared.Earlier.TheVariants.{Nothing}
-use Rattle.tag_keys.specs.declared.Checked.{Checked}
+use Rattle.tag_keys.specs.declared.KeyRefusal.{KeyRefusal}
 use Rattle.tag_keys.specs.Keys.{capacity, name_at, earlier_of, checked_by, checked_of, written_by, count_by}
 
 -- `key_hashes`: no set until it is first needed, then a set of numbers, which says of each number whether it holds it
@@ -39,8 +37,8 @@ module _ (h : List ℕ → ℕ) where
   asked (held s) tag starts ends count = s
 
   -- A hash that the set lacks: the key is new. On a hit the names are compared, oldest first.
-  unfoldable pub hashed_earlier_of : (ℕ → Bool) → List ℕ → List ℕ → List ℕ → ℕ → ℕ → ℕ → Earlier
-  hashed_earlier_of s tag starts ends count from to = pick (s (h (part tag from to))) (earlier_of tag starts ends count from to) Nothing
+  unfoldable pub hashed_earlier_of : (ℕ → Bool) → List ℕ → List ℕ → List ℕ → ℕ → ℕ → ℕ → Option ℕ
+  hashed_earlier_of s tag starts ends count from to = pick (s (h (part tag from to))) (earlier_of tag starts ends count from to) None
 
   -- the set holds the hash of every recorded name; what else it holds does not matter
   pub record Covers (s : ℕ → Bool) (tag starts ends : List ℕ) (count : ℕ) : Type 0 where
@@ -48,7 +46,7 @@ module _ (h : List ℕ → ℕ) where
 
   module _ (small : ℕ) where
     -- below the threshold the plain search, from it on the set
-    unfoldable pub crate_earlier_of : Hashes → List ℕ → List ℕ → List ℕ → ℕ → ℕ → ℕ → Earlier
+    unfoldable pub crate_earlier_of : Hashes → List ℕ → List ℕ → List ℕ → ℕ → ℕ → ℕ → Option ℕ
     crate_earlier_of s tag starts ends count from to =
         pick (leb small count)
         (hashed_earlier_of (asked s tag starts ends count) tag starts ends count from to)
@@ -66,14 +64,14 @@ module _ (h : List ℕ → ℕ) where
     Kept (held s) tag starts ends count = (small ≤ count) × Covers s tag starts ends count
 
     -- the verdicts on keys that are checked one after another, in the crate's way
-    unfoldable pub crate_checks_of : List Key → Hashes → List ℕ → List ℕ → List ℕ → ℕ → List Checked
+    unfoldable pub crate_checks_of : List Key → Hashes → List ℕ → List ℕ → List ℕ → ℕ → List (Result ℕ KeyRefusal)
     crate_checks_of [] s tag starts ends count = []
     crate_checks_of (k ∷ ks) s tag starts ends count =
         let v = checked_by count (crate_earlier_of s tag starts ends count k.from k.to) in
         v ∷ crate_checks_of ks (hashes_after s tag starts ends count k.from k.to) tag (written_by true v starts count k.from) (written_by true v ends count k.to) (count_by v count)
 
 -- and as they are here
-unfoldable pub checks_of : List Key → List ℕ → List ℕ → List ℕ → ℕ → List Checked
+unfoldable pub checks_of : List Key → List ℕ → List ℕ → List ℕ → ℕ → List (Result ℕ KeyRefusal)
 checks_of [] tag starts ends count = []
 checks_of (k ∷ ks) tag starts ends count =
     let v = checked_of tag true starts ends count k.from k.to in

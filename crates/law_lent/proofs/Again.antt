@@ -7,6 +7,7 @@ use native.Mathlib.Omega.{arith}
 use lib.Dec.{leb}
 use lib.ListN.{length}
 use borrow.Author.Tests.{leb-true, leb-false, le-leb}
+use Rattle.std.specs.Prelude.{Ok}
 use Rattle.scan.specs.Lists.{pad_to}
 use Rattle.scan.proofs.Lists.{pad_length}
 use Rattle.scope_table.specs.Records.{row_at}
@@ -14,7 +15,6 @@ use Rattle.scope_table.specs.Table.{TEXT, NUMBERS, valid_of}
 use Rattle.scope_table.specs.Lent.{stands_for, holds_of, fits_of, lent_of, form_of}
 use Rattle.scope_table.specs.declared.Head.{Head}
 use Rattle.scope_table.specs.declared.NamespaceResolver.{NamespaceResolver}
-use Rattle.scope_table.specs.declared.Form.TheVariants as Is
 use Rattle.scope_table.proofs.Lists.{and_left, and_right, and_take}
 use Rattle.scope_table.proofs.Pad.{holds_beyond, holds_within, holds_is}
 use Rattle.scope_table.proofs.Good.{valid_lent, form_good, ready}
@@ -48,7 +48,7 @@ module _ (text records : List ℕ) (head : Head) (bytes numbers : ℕ) (longer :
       (and_take (holds_longer TEXT (length text) bytes head.used longer.bytes_least longer.bytes_most (and_left (holds_of TEXT (length text) head.used) _ e))
       (holds_longer NUMBERS (length records) numbers (row_at head.count) longer.numbers_least longer.numbers_most (and_right (holds_of TEXT (length text) head.used) _ e)))
 
-  good_again : form_of text records head ≡ Is.Good → form_of (pad_to bytes text) (pad_to numbers records) head ≡ Is.Good
+  good_again : form_of text records head ≡ Ok tt → form_of (pad_to bytes text) (pad_to numbers records) head ≡ Ok tt
   good_again good =
       let r = ready text records head good in
       form_good (pad_to bytes text) (pad_to numbers records) head (fits_again r.fit)

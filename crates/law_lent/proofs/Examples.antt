@@ -6,15 +6,15 @@ use mathlib.Core.Bool.{Bool, true, false}
 use mathlib.Core.List.{List, [], ◌∷◌}
 use native.Mathlib.Omega.{arith}
 use lib.ListN.{length, replicate, length-replicate}
+use Rattle.std.specs.Prelude.{Ok, Err}
 use Rattle.scan.specs.Bytes.{bytes, bytes_from}
 use Rattle.scan.specs.Lists.{pad_to}
 use Rattle.scope_table.specs.Table.{TEXT, NUMBERS, LIMIT, head_of, fresh_of, is_table, valid_of}
-use Rattle.scope_table.specs.Answer.{changed}
+use Rattle.scope_table.specs.Answer.{changed, NamespaceResult}
 use Rattle.scope_table.specs.Lent.{stands_for, holds_of, fits_of, Given, given, held_of, lent_of, fresh_in, lent}
 use Rattle.scope_table.specs.declared.NamespaceResolver.{NamespaceResolver}
 use Rattle.scope_table.specs.declared.Changed.{Changed}
-use Rattle.scope_table.specs.declared.NamespaceResult.{NamespaceResult}
-use Rattle.scope_table.specs.declared.NamespaceResult.TheVariants.{Done, LendMore}
+use Rattle.scope_table.specs.declared.NamespaceError.TheVariants.{LendMore}
 use Rattle.scope_table.proofs.Good.{ready}
 use Rattle.scope_table.proofs.Pad.{pad_table}
 use Rattle.scope_table.proofs.Full.{full_is, full_asks, lent_again}
@@ -42,7 +42,7 @@ abbrev both : List Made
 both = made [] (bytes "u") 1 ∷ made (bytes "p") (bytes "v") 1 ∷ []
 
 -- what it is on the fresh resolver
-opened : call_in opening no_scopes ≡ told Done (scopes both 1 LIMIT)
+opened : call_in opening no_scopes ≡ told (Ok tt) (scopes both 1 LIMIT)
 opened = history_example.4
 
 used_after : (call_of opening fresh_of).resolver.head.used ≡ 76
@@ -61,7 +61,7 @@ abbrev memory : ℕ → Given
 memory n = fresh_in (replicate n 0) rows (head_of 0 0 0 0)
 
 abbrev Fresh : ℕ → Type 0
-Fresh n = LentLeft (replicate n 0) rows (changed Done fresh_of) (memory n)
+Fresh n = LentLeft (replicate n 0) rows (changed (Ok tt) fresh_of) (memory n)
 
 fresh_76 : Fresh 76
 unfolding LentFresh fresh_in held_of fits_of holds_of fresh_of
@@ -95,19 +95,19 @@ held : LentLeft (memory 76).text (memory 76).records (after 76 fresh_76) (next_l
 unfolding next_lent fits_of holds_of
 held = call_left (memory 76).text (memory 76).records (memory 76).head fresh_76.kept.ready opening (holds_is 76 fresh_76 true refl)
 
-answer_after : (call_of opening fresh_of).answer ≡ Done
+answer_after : (call_of opening fresh_of).answer ≡ Ok tt
 unfolding ScopesFollow seen
 answer_after = ap (λ (t : ScopesTold). t.answer) (scopes_follow fresh_of fresh_proper opening ∙ ap (call_in opening) fresh_none ∙ opened)
 
-pub lent_follows_instance : (next_lent opening (memory 76)).answer ≡ Done
+pub lent_follows_instance : (next_lent opening (memory 76)).answer ≡ Ok tt
 lent_follows_instance = held.answer ∙ ap (λ (x : NamespaceResolver). (call_of opening x).answer) fresh_76.kept.stands ∙ answer_after
 
 -- 75 do not, and stay as they were
-pub lends_more_instance : next_lent opening (memory 75) ≡ given LendMore (memory 75).text (memory 75).records (memory 75).head
+pub lends_more_instance : next_lent opening (memory 75) ≡ given (Err LendMore) (memory 75).text (memory 75).records (memory 75).head
 unfolding next_lent fits_of holds_of
 lends_more_instance = call_more (memory 75).text (memory 75).records (memory 75).head fresh_75.kept.ready opening (holds_is 75 fresh_75 false refl)
 
-done_only : (a : NamespaceResult) → a ≡ Done → a ≡ LendMore → ⊥
+done_only : (a : NamespaceResult) → a ≡ Ok tt → a ≡ Err LendMore → ⊥
 done_only a d e =
     let z : ◌≡◌ {A = ℕ} 0 1 = cc in
     absurd (omega arith)
@@ -116,7 +116,7 @@ fresh_level : (memory 76).head.level ≡ 0
 unfolding fresh_of
 fresh_level = ap (λ (x : NamespaceResolver). x.head.level) fresh_76.kept.stands
 
-pub lent_push_pop_instance : next_lent pop (next_lent opening (memory 76)) ≡ given Done (memory 76).text (memory 76).records (memory 76).head
+pub lent_push_pop_instance : next_lent pop (next_lent opening (memory 76)) ≡ given (Ok tt) (memory 76).text (memory 76).records (memory 76).head
 unfolding LentPushPop next_lent call_of
 lent_push_pop_instance =
     lent_push_pop (memory 76).text (memory 76).records (memory 76).head fresh_76.kept.ready (omega (arith, fresh_level))
@@ -127,7 +127,7 @@ unfolding LentReached lent_answers fresh_in held_of fits_of holds_of fresh_of
 lent_reached_instance = (lent_reached (replicate 76 0) rows (head_of 0 0 0 0) refl (opening ∷ []) (done_only (next_lent opening (memory 76)).answer lent_follows_instance, _)).1
 
 -- the same call in a run, and the resolver that the memory stands for after it
-pub lent_run_instance : RunOn (opening ∷ []) (memory 76).text (memory 76).records (stands_for (memory 76).text (memory 76).records (memory 76).head) (given Done (memory 76).text (memory 76).records (memory 76).head)
+pub lent_run_instance : RunOn (opening ∷ []) (memory 76).text (memory 76).records (stands_for (memory 76).text (memory 76).records (memory 76).head) (given (Ok tt) (memory 76).text (memory 76).records (memory 76).head)
 unfolding LentRun lent_answers next_lent
 lent_run_instance = lent_run (memory 76).text (memory 76).records (memory 76).head fresh_76.kept.ready (opening ∷ []) (done_only (next_lent opening (memory 76)).answer lent_follows_instance, _)
 
@@ -137,7 +137,7 @@ seventy_five =
     record { bytes_least = omega (arith, bytes_are 75 fresh_75); bytes_most = omega arith; numbers_least = omega arith; numbers_most = omega arith }
 
 -- one byte more for the 75: the call that asked for more is the one that the fresh resolver has
-pub calls_again_instance : (lent_of (call_of opening) (pad_to 76 (memory 75).text) (pad_to 16 (memory 75).records) (memory 75).head).answer ≡ Done
+pub calls_again_instance : (lent_of (call_of opening) (pad_to 76 (memory 75).text) (pad_to 16 (memory 75).records) (memory 75).head).answer ≡ Ok tt
 unfolding CallsAgain fits_of holds_of
 calls_again_instance =
     let g = memory 75 in
@@ -145,7 +145,7 @@ calls_again_instance =
     ∙ ap (λ (x : NamespaceResolver). (call_of opening x).answer) fresh_75.kept.stands ∙ answer_after
 
 -- full size, and nothing of it a resolver
-pub full_never_lends_instance : (lent_of (call_of pop) (replicate TEXT 7) (replicate NUMBERS 7) (head_of 70000 5000 3 0)).answer ≡ LendMore → ⊥
+pub full_never_lends_instance : (lent_of (call_of pop) (replicate TEXT 7) (replicate NUMBERS 7) (head_of 70000 5000 3 0)).answer ≡ Err LendMore → ⊥
 unfolding FullNeverLends
 full_never_lends_instance = (full_never_lends (replicate TEXT 7) (replicate NUMBERS 7) (head_of 70000 5000 3 0) (length-replicate {A = ℕ} TEXT 7) (length-replicate {A = ℕ} NUMBERS 7) pop).0
 
@@ -160,7 +160,7 @@ pub full_asks_instance : lent 99 (λ x. x.head.count) fresh_of.text fresh_of.rec
 unfolding fresh_of
 full_asks_instance = full_asks fresh_of.text fresh_of.records fresh_of.head fresh_proper.sized.text fresh_proper.sized.records 99 (λ x. x.head.count)
 
-pub full_is_instance : (lent_of (call_of opening) fresh_of.text fresh_of.records fresh_of.head).answer ≡ Done
+pub full_is_instance : (lent_of (call_of opening) fresh_of.text fresh_of.records fresh_of.head).answer ≡ Ok tt
 unfolding SizedStays
 full_is_instance =
     let s = sized_stays fresh_of fresh_proper.sized opening in
@@ -182,7 +182,7 @@ asks_again_instance =
     (asks_again g.text g.records g.head (ready g.text g.records g.head fresh_75.kept.ready).fit 76 16 seventy_five).2 ℕ 99 (λ x. x.head.level)
 
 -- the limit, written into the head
-pub lent_limit_instance : (lent_of (call_of (set_limit 500)) (memory 76).text (memory 76).records (memory 76).head).answer ≡ Done
+pub lent_limit_instance : (lent_of (call_of (set_limit 500)) (memory 76).text (memory 76).records (memory 76).head).answer ≡ Ok tt
 unfolding LentLimit
 lent_limit_instance =
     let g = memory 76 in

@@ -7,6 +7,7 @@ use mathlib.Core.Logic.{◌⊎◌, inl, inr}
 use native.Mathlib.Omega.{arith}
 use lib.ListN.{length, take, drop}
 use lib.Seq.{length-take-le}
+use Rattle.std.specs.Prelude.{Ok, Err}
 use Rattle.scan.specs.Lists.{pad_to}
 use Rattle.scan.proofs.Lists.{pad_length}
 use Rattle.scope_table.specs.Lists.{all_zero, cut}
@@ -16,9 +17,8 @@ use Rattle.scope_table.specs.Lent.{stands_for, holds_of, fits_of, Given, given, 
 use Rattle.scope_table.specs.declared.Head.{Head}
 use Rattle.scope_table.specs.declared.NamespaceResolver.{NamespaceResolver}
 use Rattle.scope_table.specs.declared.Changed.{Changed}
-use Rattle.scope_table.specs.declared.NamespaceResult.{NamespaceResult}
-use Rattle.scope_table.specs.declared.NamespaceResult.TheVariants.{LendMore}
-use Rattle.scope_table.specs.declared.Form.TheVariants as Is
+use Rattle.scope_table.specs.Answer.{NamespaceResult}
+use Rattle.scope_table.specs.declared.NamespaceError.TheVariants.{LendMore}
 use Rattle.scope_table.proofs.Lists.{and_left, and_right, zeros_later, cut_zeros}
 use Rattle.scope_table.proofs.Rows.{rows_within}
 use Rattle.scope_table.proofs.Pad.{holds_within}
@@ -63,7 +63,7 @@ module _ (bytes numbers : ℕ) (y : NamespaceResolver) (p : Proper y) where
             (sym (valid_lent (take bytes y.text) (take numbers y.records) y.head) ∙ ap valid_of st ∙ p.valid);
       }
 
-module _ (text records : List ℕ) (head : Head) (good : form_of text records head ≡ Is.Good) where
+module _ (text records : List ℕ) (head : Head) (good : form_of text records head ≡ Ok tt) where
   -- memory that is ready stands for a resolver that 20 does not refuse
   pub stands_proper : Proper (stands_for text records head)
   stands_proper =
@@ -90,11 +90,11 @@ module _ (text records : List ℕ) (head : Head) (good : form_of text records he
         (record { answer = refl; kept = held_kept (length text) (length records) y (valid_stays (stands_for text records head) stands_proper c) text records after.answer refl refl e })
 
     -- or it does not
-    pub call_more : Held false → lent_of (call_of c) text records head ≡ given LendMore text records head
+    pub call_more : Held false → lent_of (call_of c) text records head ≡ given (Err LendMore) text records head
     call_more e = sym (lends_more text records head (ready text records head good).fit (call_of c) after.answer after.resolver refl e)
 
   -- one of both
-  call_either : (c : Call) (t : Bool) → Held c t → (lent_of (call_of c) text records head ≡ given LendMore text records head) ⊎ LentLeft text records (after c) (lent_of (call_of c) text records head)
+  call_either : (c : Call) (t : Bool) → Held c t → (lent_of (call_of c) text records head ≡ given (Err LendMore) text records head) ⊎ LentLeft text records (after c) (lent_of (call_of c) text records head)
   call_either c true e = inr (call_left c e)
   call_either c false e = inl (call_more c e)
 

@@ -7,6 +7,7 @@ use mathlib.Core.List.{List, [], ◌∷◌}
 use mathlib.Core.Logic.{⊎_elim}
 use native.Mathlib.Omega.{arith}
 use lib.ListN.{length, take}
+use Rattle.std.specs.Prelude.{Ok, Err}
 use Rattle.scan.specs.First.{pick}
 use Rattle.scan.proofs.Lists.{pad_take}
 use lib.Dec.{leb}
@@ -16,8 +17,7 @@ use Rattle.scope_table.specs.Lent.{stands_for, fits_of, Given, given, held_of, l
 use Rattle.scope_table.specs.declared.Head.{Head}
 use Rattle.scope_table.specs.declared.NamespaceResolver.{NamespaceResolver}
 use Rattle.scope_table.specs.declared.Changed.{Changed}
-use Rattle.scope_table.specs.declared.NamespaceResult.TheVariants.{Done, LendMore, WrongLength}
-use Rattle.scope_table.specs.declared.Form.TheVariants as Is
+use Rattle.scope_table.specs.declared.NamespaceError.TheVariants.{LendMore, WrongLength}
 use Rattle.scope_table.proofs.Good.{ready}
 use Rattle.scope_table.proofs.Calls.{changes}
 use Rattle.scope_declare.specs.Declare.{pop_of, limited_of}
@@ -33,12 +33,12 @@ use Rattle.law_lent.specs.Follows.{MemoryFor, LentLeft, LentFollows, RunOn, Lent
 use Rattle.law_lent.proofs.Held.{held_kept, stands_proper, lent_follows}
 
 -- a call that does not ask for more
-pub left_of_lem : (text records : List ℕ) (head : Head) → form_of text records head ≡ Is.Good → (c : Call) →
-    ((lent_of (call_of c) text records head).answer ≡ LendMore → ⊥) →
+pub left_of_lem : (text records : List ℕ) (head : Head) → form_of text records head ≡ Ok tt → (c : Call) →
+    ((lent_of (call_of c) text records head).answer ≡ Err LendMore → ⊥) →
     LentLeft text records (call_of c (stands_for text records head)) (lent_of (call_of c) text records head)
 unfolding LentFollows
 left_of_lem text records head good c never =
-    ⊎_elim (λ (e : lent_of (call_of c) text records head ≡ given LendMore text records head). absurd (never (ap (λ (g : Given). g.answer) e)))
+    ⊎_elim (λ (e : lent_of (call_of c) text records head ≡ given (Err LendMore) text records head). absurd (never (ap (λ (g : Given). g.answer) e)))
     (λ (l : LentLeft text records (call_of c (stands_for text records head)) (lent_of (call_of c) text records head)). l)
     (lent_follows text records head good c)
 
@@ -65,24 +65,24 @@ run_from_lem (c ∷ more) text records x g k h =
 pub lent_run : LentRun
 unfolding LentRun
 lent_run text records head good calls enough =
-    run_from_lem calls text records (stands_for text records head) (given Done text records head)
+    run_from_lem calls text records (stands_for text records head) (given (Ok tt) text records head)
     (record { stands = refl; text_length = refl; records_length = refl; ready = good }) enough
 
 pub lent_limit : LentLimit
 unfolding LentLimit call_of limited_of
 lent_limit text records head fit limit =
     let x = stands_for text records head in
-    sym (changes text records head fit (call_of (set_limit limit)) Done (limited_of limit x) text records refl fit (pad_take TEXT text) (pad_take NUMBERS records))
+    sym (changes text records head fit (call_of (set_limit limit)) (Ok tt) (limited_of limit x) text records refl fit (pad_take TEXT text) (pad_take NUMBERS records))
 
 -- The fresh resolver.
 
 fresh_by_lem : (text records : List ℕ) (head : Head) (lent holds : Bool) →
     fits_of (length text) (length records) fresh_of.head.used fresh_of.head.count ≡ holds →
-    let held = given Done (take (length text) fresh_of.text) (take (length records) fresh_of.records) fresh_of.head in
-    let g = pick lent (pick holds held (given LendMore text records head)) (given WrongLength text records head) in
-    g.answer ≡ Done → LentLeft text records (changed Done fresh_of) g
+    let held = given (Ok tt) (take (length text) fresh_of.text) (take (length records) fresh_of.records) fresh_of.head in
+    let g = pick lent (pick holds held (given (Err LendMore) text records head)) (given (Err WrongLength) text records head) in
+    g.answer ≡ Ok tt → LentLeft text records (changed (Ok tt) fresh_of) g
 fresh_by_lem text records head true true f e =
-    record { answer = refl; kept = held_kept (length text) (length records) fresh_of fresh_proper text records Done refl refl f }
+    record { answer = refl; kept = held_kept (length text) (length records) fresh_of fresh_proper text records (Ok tt) refl refl f }
 fresh_by_lem text records head true false f e =
     let z : ◌≡◌ {A = ℕ} 0 1 = cc in
     absurd (omega arith)
@@ -112,7 +112,7 @@ lent_push_pop text records head good d tag from never =
     let g = lent_of (push_of tag from) text records head in
     let k = (left_of_lem text records head good (push tag from) never).kept in
     let p = stands_proper text records head good in
-    let back : pop_of (stands_for g.text g.records g.head) ≡ changed Done x = ap pop_of k.stands ∙ push_pop_returns x p.sized p.valid d tag from in
+    let back : pop_of (stands_for g.text g.records g.head) ≡ changed (Ok tt) x = ap pop_of k.stands ∙ push_pop_returns x p.sized p.valid d tag from in
     let fit : fits_of (length g.text) (length g.records) head.used head.count ≡ true = rw (k.text_length, k.records_length) (ready text records head good).fit in
-    sym (changes g.text g.records g.head (ready g.text g.records g.head k.ready).fit pop_of Done x text records back fit
+    sym (changes g.text g.records g.head (ready g.text g.records g.head k.ready).fit pop_of (Ok tt) x text records back fit
     (rw k.text_length (pad_take TEXT text)) (rw k.records_length (pad_take NUMBERS records)))

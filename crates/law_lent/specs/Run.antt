@@ -1,8 +1,8 @@
 -- Calls on lent memory one after another: each is made on the memory as the one before left it.
-use Rattle.std.specs.Prelude.{◌≡◌, List, [], ◌∷◌}
+use Rattle.std.specs.Prelude.{◌≡◌, List, [], ◌∷◌, Err}
 use Rattle.scope_table.specs.Lent.{Given, lent_of}
-use Rattle.scope_table.specs.declared.NamespaceResult.{NamespaceResult}
-use Rattle.scope_table.specs.declared.NamespaceResult.TheVariants.{LendMore}
+use Rattle.scope_table.specs.Answer.{NamespaceResult}
+use Rattle.scope_table.specs.declared.NamespaceError.TheVariants.{LendMore}
 use Rattle.law_scopes.specs.Calls.{Call, call_of}
 
 -- The next call. To set the limit the caller writes it into the head (`LentLimit`); the others are calls on lent memory.
@@ -22,4 +22,4 @@ lent_answers (c ∷ more) g = (next_lent c g).answer ∷ lent_answers more (next
 -- none of them asks for more memory
 abbrev pub Enough : List NamespaceResult → Type 0
 Enough [] = Unit {0}
-Enough (a ∷ more) = (a ≡ LendMore → ⊥) × Enough more
+Enough (a ∷ more) = (a ≡ Err LendMore → ⊥) × Enough more

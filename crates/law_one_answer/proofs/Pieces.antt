@@ -8,6 +8,7 @@ use prog.Memory.{Memory}
 use prog.Routine.{Routine}
 use types.Logic.{Logic}
 use contract.Monad.{Fun}
+use Rattle.std.specs.Prelude.{None, Some, Result, Ok, Err}
 use Rattle.law_one_answer.specs.Settled.{Settled}
 use Rattle.tag_pieces.specs.declared.Reader.{Reader}
 use Rattle.tag_pieces.specs.declared.Cursor.{Cursor}
@@ -15,9 +16,9 @@ use Rattle.tag_pieces.specs.declared.Growth.{Growth}
 use Rattle.tag_pieces.specs.declared.Feeding.{Feeding}
 use Rattle.tag_pieces.specs.declared.Take.{Take}
 use Rattle.tag_pieces.specs.Reader.{Grown, feeding, took}
-use Rattle.tag_takes.specs.declared.Took.{Took}
-use Rattle.tag_takes.specs.declared.Took.TheVariants.{Read, WrongLength}
-use Rattle.tag_takes.specs.Takes.{Counted, Some, Wrong, TakeEnd, took_end}
+use Rattle.tag_takes.specs.declared.TakesRead.{TakesRead}
+use Rattle.tag_takes.specs.declared.WrongLength.{WrongLength}
+use Rattle.tag_takes.specs.Takes.{Counted, TakeEnd, took_end}
 use Rattle.reader.specs.Numbers.{numbered_feeding, numbered_take}
 use Rattle.reader.proofs.Numbers.{feeding_apart, take_apart}
 use Rattle.export_pieces.specs.Pieces.{PieceEnd, FinishEnd, AnswersEnd}
@@ -26,7 +27,7 @@ use Rattle.tag_look.specs.contracts.check_in as tag-look·check-in
 use Rattle.tag_look.specs.contracts.look_in as tag-look·look-in
 use Rattle.tag_phase.specs.contracts.carry as tag-phase·carry
 use Rattle.tag_phase.specs.contracts.waits as tag-phase·waits
-use Rattle.tag_pieces.specs.contracts.Fed.number as tag-pieces·Fed·number
+use Rattle.tag_pieces.specs.contracts.fed_number as tag-pieces·fed-number
 use Rattle.tag_pieces.specs.contracts.accepted as tag-pieces·accepted
 use Rattle.tag_pieces.specs.contracts.piece_in as tag-pieces·piece-in
 use Rattle.tag_takes.specs.contracts.take_in as tag-takes·take-in
@@ -62,23 +63,23 @@ cursor_of r =
       phase = r.phase;
     }
 
-abbrev took_by : Counted → Reader → Took
-took_by (Some n why) r = Read n (cursor_of r) why
-took_by Wrong r = WrongLength
+abbrev took_by : Counted → Reader → Result TakesRead WrongLength
+took_by (Some (n, why)) r = Ok (record { answers = n; cursor = cursor_of r; why = why })
+took_by None r = Err (record {})
 
 -- many answers in one call: what is handed back, the three tables, and the output
 abbrev TakeRead : Type 0
-TakeRead = Took × List ℕ × List ℕ × List ℕ × List ℕ
+TakeRead = Result TakesRead WrongLength × List ℕ × List ℕ × List ℕ × List ℕ
 
 abbrev take_read : TakeEnd → TakeRead
 take_read x = (took_by x.counted x.reader, x.reader.starts, x.reader.ends, x.reader.hashes, x.out)
 
-take_read_lem : (r : Took) (at : Cursor) (text starts ends hashes out : List ℕ) → take_read (took_end r at text starts ends hashes out) ≡ (r, starts, ends, hashes, out)
-take_read_lem (Read n left why) at text starts ends hashes out = refl
-take_read_lem WrongLength at text starts ends hashes out = refl
+take_read_lem : (r : Result TakesRead WrongLength) (at : Cursor) (text starts ends hashes out : List ℕ) → take_read (took_end r at text starts ends hashes out) ≡ (r, starts, ends, hashes, out)
+take_read_lem (Ok x) at text starts ends hashes out = refl
+take_read_lem (Err e) at text starts ends hashes out = refl
 
 -- two calls of which the contract states the same
-take_same : (r r' : Took) (at : Cursor) (text : List ℕ) {starts ends hashes out starts' ends' hashes' out' : List ℕ} {x : TakeEnd} → took_end r at text starts ends hashes out ≡ x → took_end r' at text starts' ends' hashes' out' ≡ x → ◌≡◌ {A = TakeRead} (r, starts, ends, hashes, out) (r', starts', ends', hashes', out')
+take_same : (r r' : Result TakesRead WrongLength) (at : Cursor) (text : List ℕ) {starts ends hashes out starts' ends' hashes' out' : List ℕ} {x : TakeEnd} → took_end r at text starts ends hashes out ≡ x → took_end r' at text starts' ends' hashes' out' ≡ x → ◌≡◌ {A = TakeRead} (r, starts, ends, hashes, out) (r', starts', ends', hashes', out')
 take_same r r' at text {starts} {ends} {hashes} {out} {starts'} {ends'} {hashes'} {out'} p q =
     sym (take_read_lem r at text starts ends hashes out) ∙ ap take_read (p ∙ sym q) ∙ take_read_lem r' at text starts' ends' hashes' out'
 
@@ -95,7 +96,7 @@ module _ {M : Type 1} {𝓤 : Ura M} (𝓛 : Logic 𝓤) (mem : Memory → SProp
   pub tag_phase_waits : Settled 𝓤 tag-phase·waits.ended (tag-phase·waits.clauses 𝓛 mem run)
   tag_phase_waits κs a g y z = alone 𝓤 _ y z refl
 
-  pub tag_pieces_fed_number : Settled 𝓤 tag-pieces·Fed·number.ended (tag-pieces·Fed·number.clauses 𝓛 mem run)
+  pub tag_pieces_fed_number : Settled 𝓤 tag-pieces·fed-number.ended (tag-pieces·fed-number.clauses 𝓛 mem run)
   tag_pieces_fed_number κs a g y z = alone 𝓤 _ y z refl
 
   pub tag_pieces_accepted : Settled 𝓤 tag-pieces·accepted.ended (tag-pieces·accepted.clauses 𝓛 mem run)

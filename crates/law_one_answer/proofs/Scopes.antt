@@ -12,9 +12,10 @@ use Rattle.law_one_answer.specs.Settled.{Settled, SettledAs}
 use Rattle.scope_table.specs.Answer.{changed, numbered_change}
 use Rattle.scope_table.specs.declared.Changed.{Changed}
 use Rattle.scope_table.proofs.Answers.{change_apart}
-use Rattle.scope_lookup.specs.Lookup.{resolved_numbers, namespace_numbers}
-use Rattle.scope_lookup.specs.declared.Resolved.{Resolved}
+use Rattle.scope_lookup.specs.Lookup.{Resolved, resolved_numbers, namespace_numbers}
+use Rattle.std.specs.Prelude.{Option, Result}
 use Rattle.scope_lookup.specs.declared.Namespace.{Namespace}
+use Rattle.scope_lookup.specs.declared.LookupError.{LookupError}
 use Rattle.scope_lookup.proofs.Numbers.{resolved_apart, namespace_apart}
 use Rattle.scope_listing.specs.Listing.{numbered_listing}
 use Rattle.scope_listing.specs.declared.Listing.{Listing}
@@ -29,7 +30,7 @@ use Rattle.law_one_answer.proofs.Ends.{follows, together, alone, read_off, by_nu
 use Rattle.scope_table.specs.contracts.NamespaceResolver.fresh as scope-table·NamespaceResolver·fresh
 use Rattle.scope_table.specs.contracts.NamespaceResolver.valid as scope-table·NamespaceResolver·valid
 use Rattle.scope_table.specs.contracts.NamespaceBinding.prefix as scope-table·NamespaceBinding·prefix
-use Rattle.scope_table.specs.contracts.Form.number as scope-table·Form·number
+use Rattle.scope_table.specs.contracts.form_number as scope-table·form-number
 use Rattle.scope_table.specs.contracts.record_at as scope-table·record-at
 use Rattle.scope_table.specs.contracts.write_record as scope-table·write-record
 use Rattle.scope_table.specs.contracts.clear_bytes as scope-table·clear-bytes
@@ -78,7 +79,7 @@ use Rattle.scope_listing_carried.specs.contracts.bindings as scope-listing-carri
 use Rattle.scope_listing_carried.specs.contracts.bindings_of as scope-listing-carried·bindings-of
 use Rattle.scope_listing_carried.specs.contracts.NamespaceBindingsIter.next as scope-listing-carried·NamespaceBindingsIter·next
 use Rattle.scope_listing_carried.specs.contracts.NamespaceBindingsOfLevelIter.next as scope-listing-carried·NamespaceBindingsOfLevelIter·next
-use Rattle.scope_nil.specs.contracts.Nil.number as scope-nil·Nil·number
+use Rattle.scope_nil.specs.contracts.nil_number as scope-nil·nil-number
 use Rattle.scope_nil.specs.contracts.has_nil_in as scope-nil·has-nil-in
 use Rattle.scope_nil.specs.contracts.has_nil as scope-nil·has-nil
 use Rattle.scope_in_place.specs.contracts.set_level as scope-in-place·set-level
@@ -106,7 +107,7 @@ module _ {M : Type 1} {𝓤 : Ura M} (𝓛 : Logic 𝓤) (mem : Memory → SProp
   pub scope_table_namespace_binding_prefix : SettledAs 𝓤 scope-table·NamespaceBinding·prefix.ended (List ℕ) (λ κs r. r.now) (scope-table·NamespaceBinding·prefix.clauses 𝓛 mem run)
   scope_table_namespace_binding_prefix κs a g y z = read_off 𝓤 (λ (bytes : List ℕ). (bytes, y.1))
 
-  pub scope_table_form_number : Settled 𝓤 scope-table·Form·number.ended (scope-table·Form·number.clauses 𝓛 mem run)
+  pub scope_table_form_number : Settled 𝓤 scope-table·form-number.ended (scope-table·form-number.clauses 𝓛 mem run)
   scope_table_form_number κs a g y z = alone 𝓤 _ y z refl
 
   pub scope_table_record_at : Settled 𝓤 scope-table·record-at.ended (scope-table·record-at.clauses 𝓛 mem run)
@@ -221,7 +222,7 @@ module _ {M : Type 1} {𝓤 : Ura M} (𝓛 : Logic 𝓤) (mem : Memory → SProp
   scope_lookup_local_part κs a g y z = read_off 𝓤 (λ (bytes : List ℕ). (bytes, y.1))
 
   pub scope_lookup_namespace_of : Settled 𝓤 scope-lookup·namespace-of.ended (scope-lookup·namespace-of.clauses 𝓛 mem run)
-  scope_lookup_namespace_of κs a g y z = by_numbers 𝓤 namespace_numbers namespace_apart (λ (x : Namespace). (x, y.1)) y.0 z.0
+  scope_lookup_namespace_of κs a g y z = by_numbers 𝓤 namespace_numbers namespace_apart (λ (x : Result (Option Namespace) LookupError). (x, y.1)) y.0 z.0
 
   pub scope_lookup_resolved_numbers : Settled 𝓤 scope-lookup·resolved-numbers.ended (scope-lookup·resolved-numbers.clauses 𝓛 mem run)
   scope_lookup_resolved_numbers κs a g y z = alone 𝓤 _ y z refl
@@ -253,7 +254,7 @@ module _ {M : Type 1} {𝓤 : Ura M} (𝓛 : Logic 𝓤) (mem : Memory → SProp
   pub scope_listing_carried_namespace_bindings_of_level_iter_next : Settled 𝓤 scope-listing-carried·NamespaceBindingsOfLevelIter·next.ended (scope-listing-carried·NamespaceBindingsOfLevelIter·next.clauses 𝓛 mem run)
   scope_listing_carried_namespace_bindings_of_level_iter_next κs a g y z = follows 𝓤 (λ p q. together y z (listed_apart y.0 z.0 (p.0 ∙ sym q.0)) (together y.1 z.1 (p.1 ∙ sym q.1) refl))
 
-  pub scope_nil_nil_number : Settled 𝓤 scope-nil·Nil·number.ended (scope-nil·Nil·number.clauses 𝓛 mem run)
+  pub scope_nil_nil_number : Settled 𝓤 scope-nil·nil-number.ended (scope-nil·nil-number.clauses 𝓛 mem run)
   scope_nil_nil_number κs a g y z = alone 𝓤 _ y z refl
 
   pub scope_nil_has_nil_in : Settled 𝓤 scope-nil·has-nil-in.ended (scope-nil·has-nil-in.clauses 𝓛 mem run)

@@ -1,6 +1,7 @@
 -- What is read of a tag: each public contract of crates `scan`, `name`, `keys`, `attributes`, `parts`, `batch`, `held` and `cursor` leaves one answer, and one content of what is lent to it.
 use mathlib.Core.Path.{◌≡◌, refl, sym, ap, ◌∙◌}
 use mathlib.Core.Bool.{Bool}
+use Rattle.std.proofs.Common.{Result, Option, Some, None}
 use Rattle.scan.specs.First.{pick}
 use seplogic.Ra.Ura.{Ura}
 use base.Logic.{SProp}
@@ -11,23 +12,22 @@ use contract.Monad.{Fun}
 use Prim.Native.Nat.{ℕ}
 use mathlib.Core.List.{List}
 use lib.ListN.{get_or}
+use Rattle.std.specs.Prelude.{Result}
 use Rattle.law_one_answer.specs.Settled.{Settled, SettledAs}
 use Rattle.name.specs.Bind.{named_numbers}
-use Rattle.name.specs.declared.NamedCheck.{NamedCheck}
+use Rattle.name.specs.declared.ReservedBinding.{ReservedBinding}
 use Rattle.name.proofs.Verdicts.{named_apart}
 use Rattle.tag_keys.specs.Keys.{checked_numbers}
-use Rattle.tag_keys.specs.declared.Checked.{Checked}
+use Rattle.tag_keys.specs.declared.KeyRefusal.{KeyRefusal}
 use Rattle.tag_keys.proofs.Numbers.{checked_apart}
 use Rattle.tag_step.specs.Numbers.{numbers_of, numbered_step}
-use Rattle.tag_step.specs.declared.Answer.{Answer}
+use Rattle.tag_step.specs.Answer.{Answer}
 use Rattle.tag_step.specs.declared.Step.{Step}
 use Rattle.tag_step.proofs.Numbers.{numbers_apart, step_apart}
 use Rattle.tag_step.specs.Next.{Reading}
 use Rattle.tag_keys.specs.Sieve.{sieve_left}
 use Rattle.tag_step.specs.Lent.{Taken, Took, Short, taken, kept_in}
 use Rattle.tag_step.specs.declared.Advance.{Advance}
-use Rattle.tag_step.specs.declared.Stepped.{Stepped}
-use Rattle.tag_step.specs.declared.Stepped.TheVariants.{Made, LendMore}
 use Rattle.tag_batch.specs.Batch.{Batched}
 use Rattle.tag_batch.specs.declared.Five.{Five}
 use Rattle.law_one_answer.proofs.Ends.{follows, together, alone, read_off, by_numbers}
@@ -43,8 +43,8 @@ use Rattle.scan.specs.contracts.inside as scan·inside
 use Rattle.scan.specs.contracts.same as scan·same
 use Rattle.scan.specs.contracts.same_start as scan·same-start
 use Rattle.scan.specs.contracts.put as scan·put
-use Rattle.name.specs.contracts.PrefixDeclaration.number as name·PrefixDeclaration·number
-use Rattle.name.specs.contracts.Verdict.number as name·Verdict·number
+use Rattle.name.specs.contracts.declares_number as name·declares-number
+use Rattle.name.specs.contracts.verdict_number as name·verdict-number
 use Rattle.name.specs.contracts.colon_at as name·colon-at
 use Rattle.name.specs.contracts.index as name·index
 use Rattle.name.specs.contracts.prefix as name·prefix
@@ -79,7 +79,7 @@ use Rattle.tag_step.specs.contracts.clear_keys as tag-step·clear-keys
 use Rattle.tag_step.specs.contracts.IterState.new as tag-step·IterState·new
 use Rattle.tag_step.specs.contracts.IterState.with_checks as tag-step·IterState·with-checks
 use Rattle.tag_step.specs.contracts.IterState.next as tag-step·IterState·next
-use Rattle.tag_parts.specs.contracts.Truth.number as tag-parts·Truth·number
+use Rattle.tag_parts.specs.contracts.truth_number as tag-parts·truth-number
 use Rattle.tag_parts.specs.contracts.key_part as tag-parts·key-part
 use Rattle.tag_parts.specs.contracts.value_part as tag-parts·value-part
 use Rattle.tag_parts.specs.contracts.as_bool as tag-parts·as-bool
@@ -87,6 +87,7 @@ use Rattle.tag_batch.specs.contracts.Why.number as tag-batch·Why·number
 use Rattle.tag_batch.specs.contracts.numbers as tag-batch·numbers
 use Rattle.tag_batch.specs.contracts.put as tag-batch·put
 use Rattle.tag_batch.specs.contracts.after_seven as tag-batch·after-seven
+use Rattle.tag_batch.specs.contracts.tables_lent as tag-batch·tables-lent
 use Rattle.tag_batch.specs.contracts.read_batch as tag-batch·read-batch
 use Rattle.tag_carried.specs.contracts.Attributes.new as tag-carried·Attributes·new
 use Rattle.tag_carried.specs.contracts.Attributes.html as tag-carried·Attributes·html
@@ -107,18 +108,18 @@ outcome x = record { answer = x.answer; place = x.place; count = x.keys.count }
 
 -- the same of a step that lacks a place: which of the two it is, and the tables
 abbrev StepRead : Type 0
-StepRead = Stepped × List ℕ × List ℕ × List ℕ
+StepRead = Option Advance × List ℕ × List ℕ × List ℕ
 
 abbrev step_read : Taken → StepRead
-step_read (Took x) = (Made (outcome x), x.keys.starts, x.keys.ends, x.keys.hashes)
-step_read (Short keys) = (LendMore, keys.starts, keys.ends, keys.hashes)
+step_read (Took x) = (Some (outcome x), x.keys.starts, x.keys.ends, x.keys.hashes)
+step_read (Short keys) = (None, keys.starts, keys.ends, keys.hashes)
 
-step_read_lem : (r : Stepped) (starts ends hashes : List ℕ) (count : ℕ) → step_read (taken r starts ends hashes count) ≡ (r, starts, ends, hashes)
-step_read_lem (Made o) starts ends hashes count = refl
-step_read_lem LendMore starts ends hashes count = refl
+step_read_lem : (r : Option Advance) (starts ends hashes : List ℕ) (count : ℕ) → step_read (taken r starts ends hashes count) ≡ (r, starts, ends, hashes)
+step_read_lem (Some o) starts ends hashes count = refl
+step_read_lem None starts ends hashes count = refl
 
 -- two steps of which the contract states the same
-step_same : (r r' : Stepped) {starts ends hashes starts' ends' hashes' : List ℕ} (count : ℕ) {x : Taken} → taken r starts ends hashes count ≡ x → taken r' starts' ends' hashes' count ≡ x → ◌≡◌ {A = StepRead} (r, starts, ends, hashes) (r', starts', ends', hashes')
+step_same : (r r' : Option Advance) {starts ends hashes starts' ends' hashes' : List ℕ} (count : ℕ) {x : Taken} → taken r starts ends hashes count ≡ x → taken r' starts' ends' hashes' count ≡ x → ◌≡◌ {A = StepRead} (r, starts, ends, hashes) (r', starts', ends', hashes')
 step_same r r' {starts} {ends} {hashes} {starts'} {ends'} {hashes'} count p q =
     sym (step_read_lem r starts ends hashes count) ∙ ap step_read (p ∙ sym q) ∙ step_read_lem r' starts' ends' hashes' count
 
@@ -166,10 +167,10 @@ module _ {M : Type 1} {𝓤 : Ura M} (𝓛 : Logic 𝓤) (mem : Memory → SProp
   pub scan_put : Settled 𝓤 scan·put.ended (scan·put.clauses 𝓛 mem run)
   scan_put κs a g y z = follows 𝓤 (λ p q. together y z refl (together y.1 z.1 (p ∙ sym q) refl))
 
-  pub name_prefix_declaration_number : Settled 𝓤 name·PrefixDeclaration·number.ended (name·PrefixDeclaration·number.clauses 𝓛 mem run)
-  name_prefix_declaration_number κs a g y z = alone 𝓤 _ y z refl
+  pub name_declares_number : Settled 𝓤 name·declares-number.ended (name·declares-number.clauses 𝓛 mem run)
+  name_declares_number κs a g y z = alone 𝓤 _ y z refl
 
-  pub name_verdict_number : Settled 𝓤 name·Verdict·number.ended (name·Verdict·number.clauses 𝓛 mem run)
+  pub name_verdict_number : Settled 𝓤 name·verdict-number.ended (name·verdict-number.clauses 𝓛 mem run)
   name_verdict_number κs a g y z = alone 𝓤 _ y z refl
 
   pub name_colon_at : Settled 𝓤 name·colon-at.ended (name·colon-at.clauses 𝓛 mem run)
@@ -212,7 +213,7 @@ module _ {M : Type 1} {𝓤 : Ura M} (𝓛 : Logic 𝓤) (mem : Memory → SProp
   name_declared_prefix κs a g y z = read_off 𝓤 (λ (bytes : List ℕ). (bytes, y.1))
 
   pub name_check_named : Settled 𝓤 name·check-named.ended (name·check-named.clauses 𝓛 mem run)
-  name_check_named κs a g y z = by_numbers 𝓤 named_numbers named_apart (λ (x : NamedCheck). (x, y.1)) y.0 z.0
+  name_check_named κs a g y z = by_numbers 𝓤 named_numbers named_apart (λ (x : Result Bool ReservedBinding). (x, y.1)) y.0 z.0
 
   pub name_verdict_named : Settled 𝓤 name·verdict-named.ended (name·verdict-named.clauses 𝓛 mem run)
   name_verdict_named κs a g y z = alone 𝓤 _ y z refl
@@ -236,10 +237,10 @@ module _ {M : Type 1} {𝓤 : Ura M} (𝓛 : Logic 𝓤) (mem : Memory → SProp
   tag_keys_holds κs a g y z = alone 𝓤 _ y z refl
 
   pub tag_keys_check_for_duplicates : Settled 𝓤 tag-keys·check-for-duplicates.ended (tag-keys·check-for-duplicates.clauses 𝓛 mem run)
-  tag_keys_check_for_duplicates κs a g y z = by_numbers 𝓤 checked_numbers checked_apart (λ (x : Checked). (x, y.1)) y.0 z.0
+  tag_keys_check_for_duplicates κs a g y z = by_numbers 𝓤 checked_numbers checked_apart (λ (x : Result ℕ KeyRefusal). (x, y.1)) y.0 z.0
 
   pub tag_keys_check_unsifted : Settled 𝓤 tag-keys·check-unsifted.ended (tag-keys·check-unsifted.clauses 𝓛 mem run)
-  tag_keys_check_unsifted κs a g y z = by_numbers 𝓤 checked_numbers checked_apart (λ (x : Checked). (x, y.1)) y.0 z.0
+  tag_keys_check_unsifted κs a g y z = by_numbers 𝓤 checked_numbers checked_apart (λ (x : Result ℕ KeyRefusal). (x, y.1)) y.0 z.0
 
   pub tag_keys_record_key : Settled 𝓤 tag-keys·record-key.ended (tag-keys·record-key.clauses 𝓛 mem run)
   tag_keys_record_key κs a g y z = follows 𝓤 (λ p q. together y z (p.0 ∙ sym q.0) (together y.1 z.1 (p.1 ∙ picks_alike _ _ _ _ (p.0 ∙ sym q.0) ∙ sym q.1) (together y.1.1 z.1.1 (p.2 ∙ picks_alike _ _ _ _ (p.0 ∙ sym q.0) ∙ sym q.2) (together y.1.1.1 z.1.1.1 (p.3 ∙ picks_alike _ _ _ _ (p.0 ∙ sym q.0) ∙ sym q.3) (together y.1.1.1.1 z.1.1.1.1 (p.4 ∙ picks_alike _ _ _ _ (p.0 ∙ sym q.0) ∙ sym q.4) refl)))))
@@ -279,7 +280,7 @@ module _ {M : Type 1} {𝓤 : Ura M} (𝓛 : Logic 𝓤) (mem : Memory → SProp
   pub tag_step_iter_state_next : Settled 𝓤 tag-step·IterState·next.ended (tag-step·IterState·next.clauses 𝓛 mem run)
   tag_step_iter_state_next κs a g y z = by_numbers 𝓤 numbered_step step_apart (λ (x : Step). (x, y.1)) y.0 z.0
 
-  pub tag_parts_truth_number : Settled 𝓤 tag-parts·Truth·number.ended (tag-parts·Truth·number.clauses 𝓛 mem run)
+  pub tag_parts_truth_number : Settled 𝓤 tag-parts·truth-number.ended (tag-parts·truth-number.clauses 𝓛 mem run)
   tag_parts_truth_number κs a g y z = alone 𝓤 _ y z refl
 
   pub tag_parts_key_part : SettledAs 𝓤 tag-parts·key-part.ended (List ℕ) (λ κs r. r.now) (tag-parts·key-part.clauses 𝓛 mem run)
@@ -302,6 +303,9 @@ module _ {M : Type 1} {𝓤 : Ura M} (𝓛 : Logic 𝓤) (mem : Memory → SProp
 
   pub tag_batch_after_seven : Settled 𝓤 tag-batch·after-seven.ended (tag-batch·after-seven.clauses 𝓛 mem run)
   tag_batch_after_seven κs a g y z = alone 𝓤 _ y z refl
+
+  pub tag_batch_tables_lent : Settled 𝓤 tag-batch·tables-lent.ended (tag-batch·tables-lent.clauses 𝓛 mem run)
+  tag_batch_tables_lent κs a g y z = alone 𝓤 _ y z refl
 
   pub tag_batch_read_batch : Settled 𝓤 tag-batch·read-batch.ended (tag-batch·read-batch.clauses 𝓛 mem run)
   tag_batch_read_batch κs a g y z = read_off 𝓤 (λ (x : Batched). (x.batch, (tt, (x.starts, (x.ends, (x.hashes, (tt, (x.out, tt))))))))

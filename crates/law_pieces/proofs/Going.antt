@@ -10,6 +10,7 @@ use lib.ListN.{length, get_or, take, length-append, length-replicate, get_or-app
 use lib.Seq.{length-take-le, take-length, take-append_seam}
 use lib.Dec.{eqb, ltb, leb}
 use borrow.Author.Tests.{lt-ltb, le-leb, leb-false, ltb-true}
+use Rattle.std.specs.Prelude.{None, Some}
 use Rattle.scan.specs.First.{pick}
 use Rattle.scan.specs.Lists.{over}
 use Rattle.scan.proofs.Bytes.{both}
@@ -18,8 +19,7 @@ use Rattle.tag_keys.specs.Keys.{KeysIn, table_good}
 use Rattle.tag_keys.proofs.Laws.{in_table, keys_longer}
 use Rattle.tag_step.specs.declared.Place.{Place}
 use Rattle.tag_step.specs.declared.Place.TheVariants.{Done, Next, SkipValue, SkipEqValue}
-use Rattle.tag_step.specs.declared.Answer.{Answer}
-use Rattle.tag_step.specs.declared.Answer.TheVariants.{End, DoubleQ, SingleQ, Unquoted, Empty, ExpectedEq, ExpectedValue, UnquotedValue, ExpectedQuote, Duplicated, KeyTableFull, BadState}
+use Rattle.tag_step.specs.Answer.{Answer}
 use Rattle.tag_step.specs.declared.IterState.{IterState}
 use Rattle.tag_step.specs.declared.Step.{Step}
 use Rattle.tag_step.specs.Read.{is_at}
@@ -32,8 +32,9 @@ use Rattle.tag_phase.specs.Phase.{carried_of, waits_on}
 use Rattle.tag_phase.specs.Truth.{True, unknown}
 use Rattle.tag_phase.proofs.Truth.{carry_true, true_looks}
 use Rattle.tag_pieces.specs.declared.Reader.{Reader}
-use Rattle.tag_pieces.specs.declared.Fed.{Fed}
-use Rattle.tag_pieces.specs.declared.Fed.TheVariants.{Accepted, Finished, TooLong, LendMore}
+use Rattle.std.specs.Prelude.{Result, Ok, Err}
+use Rattle.tag_pieces.specs.declared.FeedError.{FeedError}
+use Rattle.tag_pieces.specs.declared.FeedError.TheVariants.{Finished}
 use Rattle.tag_pieces.specs.Reader.{hold, held_of, iterator_of, fed_of, grown_by, piece_in, fed_with, feeding, finished_as, piece_of, finish_of, reader_good, waits_for, moved, phase_after, take_of, opened_reader}
 use Rattle.law_damage.proofs.Stable.{next_stable, grown}
 use Rattle.law_steps.specs.Steps.{EndStays}
@@ -78,20 +79,10 @@ module _ (s : List ℕ) (st : IterState) (sized : Sized st) (good : state_good s
         (record { keys = rw (take-length s) (sized_inside s st sized good); place = place_good_lem }) l
 
 -- the end, and no other answer
-is_end_lem : (a : Answer) → is_end a ≡ true → a ≡ End
+is_end_lem : (a : Answer) → is_end a ≡ true → a ≡ None
 unfolding is_end
-is_end_lem End e = refl
-is_end_lem (DoubleQ k v) e = absurd (false≢true e)
-is_end_lem (SingleQ k v) e = absurd (false≢true e)
-is_end_lem (Unquoted k v) e = absurd (false≢true e)
-is_end_lem (Empty k) e = absurd (false≢true e)
-is_end_lem (ExpectedEq p) e = absurd (false≢true e)
-is_end_lem (ExpectedValue l) e = absurd (false≢true e)
-is_end_lem (UnquotedValue p) e = absurd (false≢true e)
-is_end_lem (ExpectedQuote l q) e = absurd (false≢true e)
-is_end_lem (Duplicated this earlier) e = absurd (false≢true e)
-is_end_lem (KeyTableFull this) e = absurd (false≢true e)
-is_end_lem BadState e = absurd (false≢true e)
+is_end_lem None e = refl
+is_end_lem (Some x) e = absurd (false≢true e)
 
 -- A step that looks at no more than what is held is not the end.
 pub ready_no_end : (s : List ℕ) (st : IterState) → state_good s st ≡ true → look_next s st < length s → is_end (next_of s st).answer ≡ false
@@ -159,7 +150,7 @@ module _ (o : ℕ) (html checks : Bool) (told : List Answer) (r : Reader) (g : G
 
   -- A piece.
   module _ (p : List ℕ) where
-    abbrev fed : Fed → Reader
+    abbrev fed : Result (Unit {0}) FeedError → Reader
     fed f = (fed_with r (grown_by f r.text r.held r.place r.phase p)).reader
 
     pub held_grows : r.held + length p ≤ hold → take (r.held + length p) (over r.text r.held p) ≡ held_of r ++ p
@@ -175,7 +166,7 @@ module _ (o : ℕ) (html checks : Bool) (told : List Answer) (r : Reader) (g : G
       agrees_grown : (u : List ℕ) → answers_of (held_of r ++ p ++ u) (opened o html checks) ≡ told ++ answers_of (held_of r ++ p ++ u) (iterator_of r)
       agrees_grown u = rw (append_assoc (held_of r) p u) (g.agrees (p ++ u) (λ e. absurd (false≢true (sym f ∙ e))))
 
-      going_accepted : r.held + length p ≤ hold → Going o html checks told (fed Accepted)
+      going_accepted : r.held + length p ≤ hold → Going o html checks told (fed (Ok tt))
       unfolding grown_by held_of
       going_accepted h =
           record {
@@ -190,13 +181,11 @@ module _ (o : ℕ) (html checks : Bool) (told : List Answer) (r : Reader) (g : G
     pub going_piece : Going o html checks told (piece_of p r).reader
     unfolding piece_of piece_in grown_by
     going_piece = by (fed_of r.finished (length r.text) r.held (length p)) refl where
-      by : (f : Fed) → fed_of r.finished (length r.text) r.held (length p) ≡ f → Going o html checks told (fed f)
-      by Accepted e =
+      by : (f : Result (Unit {0}) FeedError) → fed_of r.finished (length r.text) r.held (length p) ≡ f → Going o html checks told (fed f)
+      by (Ok u) e =
           let a = fed_accepted (length r.text) r.held (length p) r.finished e in
           going_accepted a.0 a.1
-      by Finished e = g
-      by TooLong e = g
-      by LendMore e = g
+      by (Err x) e = g
 
   -- A finish.
   going_ends : Going o html checks told (finished_as r)
@@ -214,7 +203,7 @@ module _ (o : ℕ) (html checks : Bool) (told : List Answer) (r : Reader) (g : G
   pub going_finish : Going o html checks told (finish_of r).reader
   unfolding finish_of
   going_finish = by r.finished where
-    by : (t : Bool) → Going o html checks told (pick t (feeding Finished r) (feeding Accepted (finished_as r))).reader
+    by : (t : Bool) → Going o html checks told (pick t (feeding (Err Finished) r) (feeding (Ok tt) (finished_as r))).reader
     by true = g
     by false = going_ends
 

@@ -7,17 +7,16 @@ use native.Mathlib.Omega.{arith}
 use lib.ListN.{length, get_or}
 use lib.Dec.{eqb, ltb}
 use borrow.Author.Tests.{lt-ltb, eqb-true}
+use Rattle.std.proofs.Common.{Result, Ok, Err, Option, Some, None}
 use Rattle.scan.specs.First.{first_from}
 use Rattle.scan.specs.Bytes.{is_space, not_space, ends_key, is_byte}
 use Rattle.scan.proofs.Laws.{first, picks}
-use Rattle.tag_keys.specs.declared.Checked.{Checked}
-use Rattle.tag_keys.specs.declared.Checked.TheVariants.{Fresh, Same, Full}
+use Rattle.tag_keys.specs.declared.KeyRefusal.{KeyRefusal}
+use Rattle.tag_keys.specs.declared.KeyRefusal.TheVariants.{Same, Full}
 use Rattle.tag_step.specs.declared.Span.{Span}
 use Rattle.tag_step.specs.declared.Place.{Place}
-use Rattle.tag_step.specs.declared.Start.{Start}
-use Rattle.tag_step.specs.declared.Start.TheVariants.{From, Ended}
 use Rattle.tag_step.specs.declared.KeyRead.{KeyRead}
-use Rattle.tag_step.specs.declared.KeyRead.TheVariants.{NoKey, Bare, Valued}
+use Rattle.tag_step.specs.declared.KeyRead.TheVariants.{Bare, Valued}
 use Rattle.tag_step.specs.declared.Found.{Found}
 use Rattle.tag_step.specs.declared.Step.{Step}
 use Rattle.tag_step.specs.Read.{span, is_at, is_quote, recover_of, key_eq, key_to, key_from, key_at, quoted, closed_of, value_at}
@@ -32,10 +31,10 @@ record KeyEnds (s : List ℕ) (key : Span) (x : ℕ) : Type 0 where
   end : key.end ≡ first_from ends_key s (key.start + 1)
   behind : x ≡ first_from not_space s key.end
 
-abbrev Bounds : List ℕ → KeyRead → Type 0
-Bounds s NoKey = Unit {0}
-Bounds s (Bare key at) = KeyEnds s key at
-Bounds s (Valued key eq) = KeyEnds s key eq
+abbrev Bounds : List ℕ → Option KeyRead → Type 0
+Bounds s None = Unit {0}
+Bounds s (Some (Bare key at)) = KeyEnds s key at
+Bounds s (Some (Valued key eq)) = KeyEnds s key eq
 
 key_bounds : (s : List ℕ) (o : ℕ) → Bounds s (key_at s o)
 unfolding key_at key_from key_to key_eq
@@ -64,17 +63,17 @@ module _ (s : List ℕ) where
       (λ e i q m b. (refl, λ g. rw (sym b) at ((first is_space s v (omega arith)).found (omega arith))))
       (λ i q m. (refl, i))
 
-  valued_last : (html : Bool) (key : Span) (eq : ℕ) (c : Checked) → eq < length s → KeyEnds s key eq → LastByte s (look_by s html eq c) (valued_by s html key eq c).answer
+  valued_last : (html : Bool) (key : Span) (eq : ℕ) (c : Result ℕ KeyRefusal) → eq < length s → KeyEnds s key eq → LastByte s (look_by s html eq c) (valued_by s html key eq c).answer
   unfolding LastByte look_by valued_by
-  valued_last html key eq (Fresh n) l k = value_last html key eq l
-  valued_last html key eq (Same p) l k = k.behind ∙ ap (first_from not_space s) k.end
-  valued_last html key eq Full l k = k.behind ∙ ap (first_from not_space s) k.end
+  valued_last html key eq (Ok n) l k = value_last html key eq l
+  valued_last html key eq (Err (Same p)) l k = k.behind ∙ ap (first_from not_space s) k.end
+  valued_last html key eq (Err Full) l k = k.behind ∙ ap (first_from not_space s) k.end
 
-  bare_last : (key : Span) (at : ℕ) (c : Checked) → KeyEnds s key at → LastByte s at (bare_by s key at c).answer
+  bare_last : (key : Span) (at : ℕ) (c : Result ℕ KeyRefusal) → KeyEnds s key at → LastByte s at (bare_by s key at c).answer
   unfolding LastByte bare_by
-  bare_last key at (Fresh n) k = k.behind
-  bare_last key at (Same p) k = k.behind ∙ ap (first_from not_space s) k.end
-  bare_last key at Full k = k.behind ∙ ap (first_from not_space s) k.end
+  bare_last key at (Ok n) k = k.behind
+  bare_last key at (Err (Same p)) k = k.behind ∙ ap (first_from not_space s) k.end
+  bare_last key at (Err Full) k = k.behind ∙ ap (first_from not_space s) k.end
 
   read_last : (html checks : Bool) (keys : Keys) (o : ℕ) → o ≤ length s → LastByte s (look_at s html checks keys o) (read_at s html checks keys o).answer
   unfolding LastByte bare_to valued_to
@@ -88,9 +87,9 @@ module _ (s : List ℕ) where
   step_last : (html checks : Bool) (keys : Keys) (place : Place) → LastByte s (look_of s html checks keys place) (step_of s html checks keys place).answer
   unfolding look_of look_start step_of step_from LastByte
   step_last html checks keys place = by (recover_of s place) refl where
-    by : (x : Start) → recover_of s place ≡ x → LastByte s (look_start s html checks keys x) (step_from s html checks keys place x).answer
-    by Ended e = omega arith
-    by (From o) e = read_last html checks keys o (starts_in s place o e)
+    by : (x : Option ℕ) → recover_of s place ≡ x → LastByte s (look_start s html checks keys x) (step_from s html checks keys place x).answer
+    by None e = omega arith
+    by (Some o) e = read_last html checks keys o (starts_in s place o e)
 
 pub look_of_answer : LookOfAnswer
 unfolding leaves

@@ -7,10 +7,13 @@ use native.Mathlib.Omega.{arith}
 use lib.ListN.{length, length-append}
 use lib.Dec.{leb}
 use borrow.Author.Tests.{leb-true, not-true}
+use Rattle.std.specs.Prelude.{None, Some, Err, Option, Result, Ok}
+use Rattle.tag_pieces.specs.declared.FeedError.TheVariants.{Finished}
+use Rattle.tag_pieces.specs.declared.MoreKeys.{MoreKeys}
 use Rattle.scan.specs.First.{pick}
 use Rattle.scan.proofs.Bytes.{both}
-use Rattle.tag_step.specs.declared.Answer.{Answer}
-use Rattle.tag_step.specs.declared.Answer.TheVariants.{End, BadState}
+use Rattle.tag_step.specs.Answer.{Answer}
+use Rattle.tag_step.specs.declared.AttrError.TheVariants.{BadState}
 use Rattle.tag_step.specs.declared.Step.{Step}
 use Rattle.tag_step.specs.Next.{keys_of, leaves, next_of, opened}
 use Rattle.tag_step.specs.Look.{look_next}
@@ -19,8 +22,6 @@ use Rattle.tag_step.proofs.Run.{run_whole}
 use Rattle.tag_batch.specs.declared.Why.TheVariants.{AtEnd}
 use Rattle.tag_phase.specs.Phase.{waits_on}
 use Rattle.tag_pieces.specs.declared.Reader.{Reader}
-use Rattle.tag_pieces.specs.declared.Fed.TheVariants.{Accepted, Finished}
-use Rattle.tag_pieces.specs.declared.Taken.TheVariants.{More, Gives, MoreKeys}
 use Rattle.tag_pieces.specs.declared.Take.{Take}
 use Rattle.tag_pieces.specs.Reader.{hold, held_of, iterator_of, fed_of, grown_by, piece_in, feeding, finished_as, piece_of, finish_of, waits_for, moved, phase_after, take_of, opened_reader}
 use Rattle.tag_takes.specs.Takes.{Takes, takes, takes_by, takes_of}
@@ -34,17 +35,17 @@ going : (o : ℕ) (html checks : Bool) (events : List Event) → Going o html ch
 going o html checks events = going_all o html checks events [] (opened_reader o html checks) (going_opened o html checks)
 
 -- two things that a take can give, told apart
-gives_more : {a : Answer} → Gives a ≡ More → ⊥
+gives_more : {a : Answer} → ◌≡◌ {A = Result (Option Answer) MoreKeys} (Ok (Some a)) (Ok None) → ⊥
 gives_more e = let z : ◌≡◌ {A = ℕ} 0 1 = cc in omega arith
 
 module _ (o : ℕ) (html checks : Bool) (told : List Answer) (r : Reader) (g : Going o html checks told r) where
   abbrev step : Step
   step = next_of (held_of r) (iterator_of r)
 
-  waits_more : waits_for r ≡ true → (take_of r).taken ≡ More
+  waits_more : waits_for r ≡ true → (take_of r).taken ≡ Ok None
   waits_more w = ap (λ (t : Take). t.taken) (take_waits r (going_good o html checks told r g) w)
 
-  goes_gives : waits_for r ≡ false → (take_of r).taken ≡ Gives step.answer
+  goes_gives : waits_for r ≡ false → (take_of r).taken ≡ Ok (Some step.answer)
   goes_gives w = ap (λ (t : Take). t.taken) (take_answers r g.sized (going_good o html checks told r g) w)
 
   -- the phase says no more than the look
@@ -63,34 +64,34 @@ module _ (o : ℕ) (html checks : Bool) (told : List Answer) (r : Reader) (g : G
         end = λ e. end r.finished refl (waits_for r) refl e;
         keys = λ e. keys (waits_for r) refl e;
       } where
-        more : (t : Bool) → waits_for r ≡ t → (take_of r).taken ≡ More → NotReady r
+        more : (t : Bool) → waits_for r ≡ t → (take_of r).taken ≡ Ok None → NotReady r
         more true w e = waits_unready w
         more false w e = absurd (gives_more (sym (goes_gives w) ∙ e))
 
-        gives : (t : Bool) → waits_for r ≡ t → (NotReady r → ⊥) → (take_of r).taken ≡ Gives step.answer
+        gives : (t : Bool) → waits_for r ≡ t → (NotReady r → ⊥) → (take_of r).taken ≡ Ok (Some step.answer)
         gives true w n = absurd (n (waits_unready w))
         gives false w n = goes_gives w
 
-        end : (f : Bool) → r.finished ≡ f → (t : Bool) → waits_for r ≡ t → (take_of r).taken ≡ Gives End → f ≡ true
+        end : (f : Bool) → r.finished ≡ f → (t : Bool) → waits_for r ≡ t → (take_of r).taken ≡ Ok (Some None) → f ≡ true
         end true f t w e = refl
         end false f true w e = absurd (gives_more (sym e ∙ waits_more w))
         end false f false w e =
             let a = goes_gives w in
-            let z : step.answer ≡ End = cc in
+            let z : step.answer ≡ None = cc in
             absurd (true≢false (sym (ap is_end z) ∙ ready_no_end (held_of r) (iterator_of r) g.good (ready o html checks told r g w f)))
 
-        keys : (t : Bool) → waits_for r ≡ t → (take_of r).taken ≡ MoreKeys → ⊥
+        keys : (t : Bool) → waits_for r ≡ t → (take_of r).taken ≡ Err (record {}) → ⊥
         keys true w e = let a = waits_more w in let z : ◌≡◌ {A = ℕ} 0 1 = cc in omega arith
         keys false w e = let a = goes_gives w in let z : ◌≡◌ {A = ℕ} 0 1 = cc in omega arith
 
-  never_seven : (take_of r).taken ≡ Gives BadState → ⊥
+  never_seven : (take_of r).taken ≡ Ok (Some (Some (Err BadState))) → ⊥
   unfolding LastByte
   never_seven = by (waits_for r) refl where
-    by : (t : Bool) → waits_for r ≡ t → (take_of r).taken ≡ Gives BadState → ⊥
+    by : (t : Bool) → waits_for r ≡ t → (take_of r).taken ≡ Ok (Some (Some (Err BadState))) → ⊥
     by true w e = gives_more (sym e ∙ waits_more w)
     by false w e =
         let a = goes_gives w in
-        let z : step.answer ≡ BadState = cc in
+        let z : step.answer ≡ Some (Err BadState) = cc in
         subst (LastByte (held_of r) (look_next (held_of r) (iterator_of r))) z (look_of_answer (held_of r) (iterator_of r) g.good)
 
 pub take_exactly : TakeExactly
@@ -113,7 +114,7 @@ finished_goes r f = by r.finished (waits_on (held_of r) r.html r.check_duplicate
   by false w l e = absurd (false≢true e)
 
 -- an answer, and those after it
-takes_by_lem : (a : Answer) (r : Reader) (rest : Takes) → (takes_by (Gives a) r rest).answers ≡ cons_unless (is_end a) a rest.answers
+takes_by_lem : (a : Answer) (r : Reader) (rest : Takes) → (takes_by (Ok (Some a)) r rest).answers ≡ cons_unless (is_end a) a rest.answers
 unfolding takes_by cons_unless
 takes_by_lem a r rest = by (is_end a) where
   by : (t : Bool) → (pick t (takes [] r AtEnd) (takes (a ∷ rest.answers) rest.reader rest.why)).answers ≡ cons_unless t a rest.answers
@@ -136,14 +137,14 @@ takes_run (suc n) o html checks told r g f =
 finish_held : (r : Reader) → held_of (finish_of r).reader ≡ held_of r
 unfolding finish_of finished_as held_of
 finish_held r = by r.finished where
-  by : (t : Bool) → held_of (pick t (feeding Finished r) (feeding Accepted (finished_as r))).reader ≡ held_of r
+  by : (t : Bool) → held_of (pick t (feeding (Err Finished) r) (feeding (Ok tt) (finished_as r))).reader ≡ held_of r
   by true = refl
   by false = refl
 
 finish_finished : (r : Reader) → (finish_of r).reader.finished ≡ true
 unfolding finish_of finished_as
 finish_finished r = by r.finished refl where
-  by : (t : Bool) → r.finished ≡ t → (pick t (feeding Finished r) (feeding Accepted (finished_as r))).reader.finished ≡ true
+  by : (t : Bool) → r.finished ≡ t → (pick t (feeding (Err Finished) r) (feeding (Ok tt) (finished_as r))).reader.finished ≡ true
   by true e = e
   by false e = refl
 
@@ -189,7 +190,7 @@ module _ (o : ℕ) (html checks : Bool) where
       by false w = rw (take_answers r g.sized (going_good o html checks told r g) w)
 
     module _ (p : List ℕ) (f : r.finished ≡ false) (h : r.held + length p ≤ hold) where
-      accepted : fed_of r.finished (length r.text) r.held (length p) ≡ Accepted
+      accepted : fed_of r.finished (length r.text) r.held (length p) ≡ Ok tt
       accepted = accepts r.finished (length r.text) r.held (length p) f h (omega (arith, g.text))
 
       piece_held : held_of (piece_of p r).reader ≡ held_of r ++ p

@@ -1,18 +1,17 @@
 -- A tag in pieces: document 02, request 1. Each theorem is a named type here.
-use Rattle.std.specs.Prelude.{ℕ, ◌+◌, ◌≤◌, ◌<◌, ◌≡◌, Bool, true, false, ◌↔◌, List, [], ◌∷◌, ◌++◌, length, get_or}
+use Rattle.std.specs.Prelude.{ℕ, ◌+◌, ◌≤◌, ◌<◌, ◌≡◌, Bool, true, false, ◌↔◌, List, [], ◌∷◌, ◌++◌, length, get_or, None, Some, Ok, Err, Option, Result}
 use Rattle.scan.specs.First.{first_from}
 use Rattle.scan.specs.Bytes.{is_space, not_space, ends_key}
-use Rattle.tag_step.specs.declared.Answer.{Answer}
-use Rattle.tag_step.specs.declared.Answer.TheVariants.{End, DoubleQ, SingleQ, Unquoted, Empty, ExpectedEq, ExpectedValue, UnquotedValue, ExpectedQuote, Duplicated, KeyTableFull, BadState}
+use Rattle.tag_step.specs.Answer.{Answer}
+use Rattle.tag_step.specs.declared.Attr.TheVariants.{DoubleQ, SingleQ, Unquoted, Empty}
+use Rattle.tag_step.specs.declared.AttrError.TheVariants.{ExpectedEq, ExpectedValue, UnquotedValue, ExpectedQuote, Duplicated, KeyTableFull, BadState}
 use Rattle.tag_step.specs.declared.IterState.{IterState}
 use Rattle.tag_step.specs.Read.{is_at}
 use Rattle.tag_step.specs.Next.{state_good, next_of, opened}
 use Rattle.tag_step.specs.Look.{look_next}
 use Rattle.tag_step.specs.Run.{is_end, cons_unless, answers_of}
 use Rattle.tag_pieces.specs.declared.Reader.{Reader}
-use Rattle.tag_pieces.specs.declared.Fed.TheVariants.{Accepted}
-use Rattle.tag_pieces.specs.declared.Taken.{Taken}
-use Rattle.tag_pieces.specs.declared.Taken.TheVariants.{More, Gives, MoreKeys}
+use Rattle.tag_pieces.specs.declared.MoreKeys.{MoreKeys}
 use Rattle.tag_pieces.specs.Reader.{hold, held_of, iterator_of, piece_of, finish_of, reader_good, emptied, took, take_of, opened_reader, fed_number}
 use Rattle.tag_takes.specs.Takes.{takes_of}
 
@@ -37,10 +36,10 @@ abbrev pub reached : ℕ → Bool → Bool → List Event → Reader
 reached o html checks events = after_all events (opened_reader o html checks)
 
 -- What a take tells of the tag: an answer that is neither *more* nor the end.
-unfoldable pub told_by : Taken → List Answer
-told_by More = []
-told_by MoreKeys = []
-told_by (Gives a) = cons_unless (is_end a) a []
+unfoldable pub told_by : Result (Option Answer) MoreKeys → List Answer
+told_by (Ok None) = []
+told_by (Err m) = []
+told_by (Ok (Some a)) = cons_unless (is_end a) a []
 
 unfoldable pub told_at : Event → Reader → List Answer
 told_at (Piece p) r = []
@@ -108,11 +107,11 @@ pub record NotReady (r : Reader) : Type 0 where
 
 -- *More* comes exactly then, and else the answer of the iterator. The end is never before the finish, and no key lacks a place.
 pub record AnswersExactly (r : Reader) : Type 0 where
-  pub waits : NotReady r → (take_of r).taken ≡ More
-  pub more : (take_of r).taken ≡ More → NotReady r
-  pub gives : (NotReady r → ⊥) → (take_of r).taken ≡ Gives (next_of (held_of r) (iterator_of r)).answer
-  pub end : (take_of r).taken ≡ Gives End → r.finished ≡ true
-  pub keys : (take_of r).taken ≡ MoreKeys → ⊥
+  pub waits : NotReady r → (take_of r).taken ≡ Ok None
+  pub more : (take_of r).taken ≡ Ok None → NotReady r
+  pub gives : (NotReady r → ⊥) → (take_of r).taken ≡ Ok (Some (next_of (held_of r) (iterator_of r)).answer)
+  pub end : (take_of r).taken ≡ Ok (Some None) → r.finished ≡ true
+  pub keys : (take_of r).taken ≡ Err (record {}) → ⊥
 
 -- An answer is there as soon as what is held has the last byte that its rule looks at.
 abbrev pub TakeExactly : Type 0
@@ -120,7 +119,7 @@ TakeExactly = (o : ℕ) (html checks : Bool) (events : List Event) → AnswersEx
 
 -- No sooner, whatever a phase made by hand says, and on lent memory too: this holds of every reader that is good.
 abbrev pub NeverEarly : Type 0
-NeverEarly = (r : Reader) → reader_good r ≡ true → NotReady r → (take_of r).taken ≡ More
+NeverEarly = (r : Reader) → reader_good r ≡ true → NotReady r → (take_of r).taken ≡ Ok None
 
 -- the first byte that is no whitespace after the key that starts at p: its `=`, where it has one
 abbrev pub behind_key : List ℕ → ℕ → ℕ
@@ -128,19 +127,19 @@ behind_key s p = first_from not_space s (first_from ends_key s (p + 1))
 
 -- The last byte that an answer's rule looks at, at position n; where there is none, only the finish tells.
 unfoldable pub LastByte : List ℕ → ℕ → Answer → Type 0
-LastByte s n (DoubleQ key value) = (n ≡ value.end) × (is_at s 34 n ≡ true)
-LastByte s n (SingleQ key value) = (n ≡ value.end) × (is_at s 39 n ≡ true)
-LastByte s n (Unquoted key value) = (n ≡ value.end) × (n < length s → is_space (get_or s n 0) ≡ true)
-LastByte s n (Empty key) = n ≡ first_from not_space s key.end
-LastByte s n (ExpectedEq pos) = n ≡ pos
-LastByte s n (ExpectedValue len) = length s ≤ n
-LastByte s n (UnquotedValue pos) = (n ≡ pos) × (n < length s)
-LastByte s n (ExpectedQuote len quote) = length s ≤ n
-LastByte s n (Duplicated this earlier) = n ≡ behind_key s this
-LastByte s n (KeyTableFull this) = n ≡ behind_key s this
-LastByte s n End = length s ≤ n
+LastByte s n (Some (Ok (DoubleQ key value))) = (n ≡ value.end) × (is_at s 34 n ≡ true)
+LastByte s n (Some (Ok (SingleQ key value))) = (n ≡ value.end) × (is_at s 39 n ≡ true)
+LastByte s n (Some (Ok (Unquoted key value))) = (n ≡ value.end) × (n < length s → is_space (get_or s n 0) ≡ true)
+LastByte s n (Some (Ok (Empty key))) = n ≡ first_from not_space s key.end
+LastByte s n (Some (Err (ExpectedEq pos))) = n ≡ pos
+LastByte s n (Some (Err (ExpectedValue len))) = length s ≤ n
+LastByte s n (Some (Err (UnquotedValue pos))) = (n ≡ pos) × (n < length s)
+LastByte s n (Some (Err (ExpectedQuote len quote))) = length s ≤ n
+LastByte s n (Some (Err (Duplicated this earlier))) = n ≡ behind_key s this
+LastByte s n (Some (Err (KeyTableFull this))) = n ≡ behind_key s this
+LastByte s n None = length s ≤ n
 -- 7 is no answer of a good state.
-LastByte s n BadState = ⊥
+LastByte s n (Some (Err BadState)) = ⊥
 
 abbrev pub LookOfAnswer : Type 0
 LookOfAnswer = (s : List ℕ) (st : IterState) → state_good s st ≡ true → LastByte s (look_next s st) (next_of s st).answer
@@ -149,17 +148,17 @@ LookOfAnswer = (s : List ℕ) (st : IterState) → state_good s st ≡ true → 
 
 -- *More* changes nothing.
 abbrev pub MoreStays : Type 0
-MoreStays = (r : Reader) → (take_of r).taken ≡ More → (take_of r).reader ≡ r
+MoreStays = (r : Reader) → (take_of r).taken ≡ Ok None → (take_of r).reader ≡ r
 
 -- A piece that is refused changes nothing: 32 after the finish, then 31 where more than 65,536 bytes would be held.
 pub record PieceRefused (p : List ℕ) (r : Reader) : Type 0 where
-  pub stays : ((piece_of p r).fed ≡ Accepted → ⊥) → (piece_of p r).reader ≡ r
+  pub stays : ((piece_of p r).fed ≡ Ok tt → ⊥) → (piece_of p r).reader ≡ r
   pub finished : fed_number (piece_of p r).fed ≡ 32 ↔ r.finished ≡ true
   pub long : fed_number (piece_of p r).fed ≡ 31 ↔ ((r.finished ≡ false) × (hold < r.held + length p))
 
 -- Nor does a second finish, which is 32 and never 31.
 pub record FinishRefused (r : Reader) : Type 0 where
-  pub stays : ((finish_of r).fed ≡ Accepted → ⊥) → (finish_of r).reader ≡ r
+  pub stays : ((finish_of r).fed ≡ Ok tt → ⊥) → (finish_of r).reader ≡ r
   pub finished : fed_number (finish_of r).fed ≡ 32 ↔ r.finished ≡ true
   pub long : fed_number (finish_of r).fed ≡ 31 → ⊥
 
@@ -173,8 +172,8 @@ abbrev pub ReaderStaysGood : Type 0
 ReaderStaysGood =
     (o : ℕ) (html checks : Bool) (events : List Event) →
     let r = reached o html checks events in
-    (reader_good r ≡ true) × ((take_of r).taken ≡ Gives BadState → ⊥)
+    (reader_good r ≡ true) × ((take_of r).taken ≡ Ok (Some (Some (Err BadState))) → ⊥)
 
 -- To a reader that is not good it comes first, finished or not, and leaves none held.
 abbrev pub SevenEmpties : Type 0
-SevenEmpties = (r : Reader) → reader_good r ≡ false → take_of r ≡ took (Gives BadState) (emptied r)
+SevenEmpties = (r : Reader) → reader_good r ≡ false → take_of r ≡ took (Ok (Some (Some (Err BadState)))) (emptied r)

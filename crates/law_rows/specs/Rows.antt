@@ -1,10 +1,11 @@
 -- The starred rows of document 01, as one table: tags and all their answers; and tags pushed on a fresh resolver and popped
 -- again, what the last call answers, and what names resolve to then.
-use Rattle.std.specs.Prelude.{ℕ, Bool, true, false, List, [], ◌∷◌, map}
+use Rattle.std.specs.Prelude.{ℕ, Bool, true, false, List, [], ◌∷◌, map, Some, Ok, Err}
 use Prim.Native.String.{String}
 use Rattle.scan.specs.Bytes.{bytes}
-use Rattle.tag_step.specs.declared.Answer.{Answer}
-use Rattle.tag_step.specs.declared.Answer.TheVariants.{DoubleQ, SingleQ, ExpectedEq, UnquotedValue, Duplicated}
+use Rattle.tag_step.specs.Answer.{Answer}
+use Rattle.tag_step.specs.declared.Attr.TheVariants.{DoubleQ, SingleQ}
+use Rattle.tag_step.specs.declared.AttrError.TheVariants.{ExpectedEq, UnquotedValue, Duplicated}
 use Rattle.tag_step.specs.Read.{span}
 use Rattle.tag_step.specs.Next.{opened}
 use Rattle.tag_step.specs.Run.{answers_of}
@@ -12,7 +13,6 @@ use Rattle.scope_table.specs.Table.{fresh_of}
 use Rattle.scope_table.specs.Answer.{change_numbers, changed}
 use Rattle.scope_table.specs.declared.NamespaceResolver.{NamespaceResolver}
 use Rattle.scope_table.specs.declared.Changed.{Changed}
-use Rattle.scope_table.specs.declared.NamespaceResult.TheVariants.{Done}
 use Rattle.scope_lookup.specs.Lookup.{resolve_of}
 use Rattle.law_scopes.specs.Calls.{Call, push, pop, call_of}
 use Rattle.law_rows.specs.Seen.{Seen, bound, unbound, unknown, handed_back}
@@ -63,7 +63,7 @@ shown_by calls looks c =
     row calls (change_numbers c.answer) c.resolver.head.used c.resolver.head.level (map (looked_up c.resolver) looks)
 
 unfoldable pub computed : Row → Row
-computed r = shown_by r.calls r.looks (call_all r.calls (changed Done fresh_of))
+computed r = shown_by r.calls r.looks (call_all r.calls (changed (Ok tt) fresh_of))
 
 -- A row of the table: a tag, opened at 0 in XML mode with checks on, and all its answers; a row of calls; or calls after which
 -- the whole resolver is the one that stands here.
@@ -76,7 +76,7 @@ pub data Starred : Type 0 where
 unfoldable pub computed_of : Starred → Starred
 computed_of (reads t answers) = reads t (answers_of (bytes t) (opened 0 false true))
 computed_of (resolves r) = resolves (computed r)
-computed_of (returns calls c) = returns calls (call_all calls (changed Done fresh_of))
+computed_of (returns calls c) = returns calls (call_all calls (changed (Ok tt) fresh_of))
 
 abbrev pub shown : List Call → List ℕ → ℕ → ℕ → List Look → Starred
 shown calls numbers used level looks = resolves (row calls numbers used level looks)
@@ -84,12 +84,12 @@ shown calls numbers used level looks = resolves (row calls numbers used level lo
 -- The rows, in document 01's order. In the tag with `xmlns:xmlns`, 13 holds the bounds of `w`.
 abbrev pub starred_rows : List Starred
 starred_rows =
-    reads "a=\"1\"b='2'" (DoubleQ (span 0 1) (span 3 4) ∷ SingleQ (span 5 6) (span 8 9) ∷ [])
-    ∷ reads "a b=\"1\"" (ExpectedEq 2 ∷ DoubleQ (span 2 3) (span 5 6) ∷ [])
-    ∷ reads "a=1 b='2'" (UnquotedValue 2 ∷ SingleQ (span 4 5) (span 7 8) ∷ [])
-    ∷ reads "a='1' a=\"2 3\" b='4'" (SingleQ (span 0 1) (span 3 4) ∷ Duplicated 6 0 ∷ ExpectedEq 14 ∷ SingleQ (span 14 15) (span 17 18) ∷ [])
-    ∷ reads "=\"1\"" (ExpectedEq 4 ∷ [])
-    ∷ reads "a=1 a='2'" (UnquotedValue 2 ∷ Duplicated 4 0 ∷ [])
+    reads "a=\"1\"b='2'" (Some (Ok (DoubleQ (span 0 1) (span 3 4))) ∷ Some (Ok (SingleQ (span 5 6) (span 8 9))) ∷ [])
+    ∷ reads "a b=\"1\"" (Some (Err (ExpectedEq 2)) ∷ Some (Ok (DoubleQ (span 2 3) (span 5 6))) ∷ [])
+    ∷ reads "a=1 b='2'" (Some (Err (UnquotedValue 2)) ∷ Some (Ok (SingleQ (span 4 5) (span 7 8))) ∷ [])
+    ∷ reads "a='1' a=\"2 3\" b='4'" (Some (Ok (SingleQ (span 0 1) (span 3 4))) ∷ Some (Err (Duplicated 6 0)) ∷ Some (Err (ExpectedEq 14)) ∷ Some (Ok (SingleQ (span 14 15) (span 17 18))) ∷ [])
+    ∷ reads "=\"1\"" (Some (Err (ExpectedEq 4)) ∷ [])
+    ∷ reads "a=1 a='2'" (Some (Err (UnquotedValue 2)) ∷ Some (Err (Duplicated 4 0)) ∷ [])
     ∷ shown (tag " xmlns=\"u\" xmlns:p=\"v\"" ∷ []) (0 ∷ []) 76 1
     (element "a" (bound (bytes "u")) ∷ attribute "a" unbound ∷ element "p:a" (bound (bytes "v")) ∷ attribute "p:a" (bound (bytes "v")) ∷ [])
     ∷ shown (tag " xmlns=\"u\" xmlns:p=\"v\"" ∷ pop ∷ []) (0 ∷ []) 73 0 []
@@ -98,7 +98,7 @@ starred_rows =
     ∷ shown (tag " xmlns:=\"u\"" ∷ []) (0 ∷ []) 74 1 (element "a" (bound (bytes "u")) ∷ element ":a" (unknown []) ∷ [])
     ∷ shown (tag " xmlns:p=\"v\" xmlns:xmlns=\"w\" xmlns:q=\"z\"" ∷ []) (13 ∷ 26 ∷ 27 ∷ []) 75 1
     (element "p:a" (bound (bytes "v")) ∷ element "q:a" (unknown (bytes "q")) ∷ [])
-    ∷ returns (tag " xmlns:p=\"v\" xmlns:xmlns=\"w\" xmlns:q=\"z\"" ∷ pop ∷ []) (changed Done fresh_of)
+    ∷ returns (tag " xmlns:p=\"v\" xmlns:xmlns=\"w\" xmlns:q=\"z\"" ∷ pop ∷ []) (changed (Ok tt) fresh_of)
     ∷ shown (tag " xmlns:p=\"v\" x xmlns:q=\"w\"" ∷ []) (0 ∷ []) 75 1
     (element "p:a" (bound (bytes "v")) ∷ element "q:a" (unknown (bytes "q")) ∷ [])
     ∷ []

@@ -4,18 +4,16 @@ use mathlib.Core.Path.{◌≡◌}
 use mathlib.Core.Bool.{true}
 use mathlib.Core.List.{List, [], ◌∷◌}
 use lib.ListN.{length}
+use Rattle.std.specs.Prelude.{Option, Some, None, Ok, Err}
 use Rattle.scan.proofs.Laws.{picks}
 use Rattle.name.specs.declared.PrefixDeclaration.{PrefixDeclaration}
-use Rattle.scope_table.specs.Answer.{is_done}
+use Rattle.scope_table.specs.Answer.{is_done, NamespaceResult}
 use Rattle.scope_table.specs.declared.NamespaceResolver.{NamespaceResolver}
-use Rattle.scope_table.specs.declared.NamespaceResult.{NamespaceResult}
 use Rattle.scope_table.specs.declared.Changed.{Changed}
 use Rattle.scope_change.specs.Change.{whole, bound_of, refusal_of, append_of}
 use Rattle.scope_change.proofs.Change.{room_has}
 use Rattle.scope_declare.specs.declared.Places.{Places}
-use Rattle.scope_declare.specs.declared.Judged.{Judged}
-use Rattle.scope_declare.specs.declared.Judged.TheVariants.{Keep, Bind}
-use Rattle.scope_declare.specs.Declare.{judge_of, settle_of, declare_of}
+use Rattle.scope_declare.specs.Declare.{Judged, judge_of, settle_of, declare_of}
 use Rattle.scope_push.specs.Push.{Declaration, then_of, declare_all}
 use Rattle.law_scopes.proofs.Bound.{Takes}
 
@@ -37,10 +35,11 @@ module _ (P : NamespaceResolver → Type 0) (grows : (x : NamespaceResolver) (p 
 
   settle_keeps : (j : Judged) (x : NamespaceResolver) (p v : List ℕ) → P x → P (settle_of whole j p v x).resolver
   unfolding settle_of
-  settle_keeps (Keep a) x p v h = h
-  settle_keeps (Bind n) x p v h = append_keeps x _ v h
+  settle_keeps (Err a) x p v h = h
+  settle_keeps (Ok None) x p v h = h
+  settle_keeps (Ok (Some n)) x p v h = append_keeps x _ v h
 
-  pub declare_keeps : (x : NamespaceResolver) (d : PrefixDeclaration) (p v : List ℕ) (at : Places) → P x → P (declare_of whole d p v at x).resolver
+  pub declare_keeps : (x : NamespaceResolver) (d : Option PrefixDeclaration) (p v : List ℕ) (at : Places) → P x → P (declare_of whole d p v at x).resolver
   unfolding declare_of
   declare_keeps x d p v at h = settle_keeps (judge_of d p v at) x p v h
 

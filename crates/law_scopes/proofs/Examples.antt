@@ -7,6 +7,7 @@ use mathlib.Core.List.{List, [], ◌∷◌, ◌++◌}
 use native.Mathlib.Omega.{arith}
 use lib.ListN.{length, replicate, length-append, length-replicate}
 use borrow.Author.Tests.{lt-leb, le-ltb}
+use Rattle.std.specs.Prelude.{Ok, Err, Some}
 use Rattle.scan.specs.First.{first_of, first_to, first_from}
 use Rattle.scan.specs.Bytes.{is_space, not_space, ends_key, is_byte, part, inside, same_bytes, bytes_from, bytes}
 use Rattle.tag_keys.specs.Keys.{key_good, key_bad, count_good, table_good, name_at, same_key, oldest_of, earlier_of, checked_by, checked_of, written_by, count_by}
@@ -22,9 +23,8 @@ use Rattle.scope_table.specs.Table.{TEXT, RECORDS, LIMIT, head_of, resolver_of, 
 use Rattle.scope_table.specs.Lists.{last_below}
 use Rattle.scope_table.specs.Answer.{changed}
 use Rattle.scope_table.specs.declared.NamespaceResolver.{NamespaceResolver}
-use Rattle.scope_table.specs.declared.NamespaceResult.TheVariants.{Done, InvalidXmlnsPrefixBind, TooManyBindings, BindingTableFull, TextFull, BadResolver, LendMore, WrongLength}
+use Rattle.scope_table.specs.declared.NamespaceError.TheVariants.{InvalidXmlnsPrefixBind, TooManyBindings, BindingTableFull, TextFull, BadResolver, LendMore, WrongLength}
 use Rattle.scope_change.specs.Change.{kept_at, dropped_of, level_of}
-use Rattle.scope_declare.specs.declared.Judged.TheVariants.{Bind}
 use Rattle.scope_declare.specs.Declare.{wholly, named_of, judge_of, add_of, pop_of}
 use Rattle.scope_push.specs.Push.{declaration_of, declaration_then, declarations_of, tag_answers, push_of}
 use Rattle.law_scopes.specs.Calls.{Call, add, push, pop, set_level, set_limit, call_of, tests_form, left_by, answers_by}
@@ -50,7 +50,7 @@ abbrev inner_tag : List ℕ
 inner_tag = bytes " xmlns:q=\"w\" xmlns:xmlns=\"x\" xmlns:r=\"y\""
 
 abbrev history : List Call → List Call
-history more = push outer_tag 0 ∷ push inner_tag 0 ∷ add Named (bytes "s") (bytes "z") ∷ more
+history more = push outer_tag 0 ∷ push inner_tag 0 ∷ add (Some Named) (bytes "s") (bytes "z") ∷ more
 
 abbrev outer : List Made → List Made
 outer more = made [] (bytes "u") 1 ∷ made (bytes "p") (bytes "v") 1 ∷ more
@@ -60,11 +60,11 @@ both = outer (made (bytes "q") (bytes "w") 2 ∷ made (bytes "s") (bytes "z") 2 
 
 -- `q` stands, the reserved prefix is 13 with its value, and `r` is not come to; a pop leaves the outer tag's, and level 0 none
 pub history_example :
-    (answers_in (history []) no_scopes ≡ Done ∷ InvalidXmlnsPrefixBind 26 27 ∷ Done ∷ [])
+    (answers_in (history []) no_scopes ≡ Ok tt ∷ Err (InvalidXmlnsPrefixBind 26 27) ∷ Ok tt ∷ [])
     × (scopes_after (history []) no_scopes ≡ scopes both 2 LIMIT)
     × (scopes_after (history (pop ∷ [])) no_scopes ≡ scopes (outer []) 1 LIMIT)
     × (scopes_after (history (pop ∷ pop ∷ [])) no_scopes ≡ no_scopes)
-    × (call_in (push outer_tag 0) no_scopes ≡ told Done (scopes (outer []) 1 LIMIT))
+    × (call_in (push outer_tag 0) no_scopes ≡ told (Ok tt) (scopes (outer []) 1 LIMIT))
     × (size_of both ≡ 7)
     × (scopes_after (history (set_level 0 (omega arith) ∷ [])) no_scopes ≡ no_scopes)
 unfolding first_of first_to first_from is_space not_space ends_key is_byte part same_bytes bytes_from bytes key_good key_bad count_good table_good name_at same_key oldest_of earlier_of checked_by checked_of written_by count_by is_at is_quote skip_to skip_of recover_of key_eq key_to key_from key_at quoted closed_of quoted_to quoted_of unquoted_to other_of value_by value_from value_at check_of kept_by place_at bare_by bare_to bare_of valued_by valued_to valued_of read_key read_at step_from step_of place_good keys_of state_good no_keys bad_reading leaves next_of opened is_end cons_unless run_of answers_of inside key_part value_part xml_prefix xmlns_prefix xml_uri xmlns_uri is_xml is_xmlns is_xml_uri is_xmlns_uri reserved_bind opening is_named declares_of declared_prefix named_of judge_of tag_answers declaration_of declaration_then declarations_of no_scopes size_of room_for bind_in settle_in declare_in declare_all_in keeps up_to level_in call_in scopes_after answers_in
@@ -72,7 +72,7 @@ history_example = (refl, refl, refl, refl, refl, refl, refl)
 
 -- The fresh resolver, and what calls make of it.
 
-pub push_pop_instance : pop_of (push_of inner_tag 0 fresh_of).resolver ≡ changed Done fresh_of
+pub push_pop_instance : pop_of (push_of inner_tag 0 fresh_of).resolver ≡ changed (Ok tt) fresh_of
 unfolding PushPopReturns fresh_of
 push_pop_instance = push_pop_returns fresh_of fresh_proper.sized fresh_proper.valid (omega arith) inner_tag 0
 
@@ -84,19 +84,19 @@ pub reached_valid_instance : valid_of (left_by (history []) fresh_of) ≡ true
 unfolding ReachedValid
 reached_valid_instance = (reached_valid (history [])).valid
 
-pub bad_only_instance : (add_of Default [] (bytes "u") fresh_of).answer ≡ BadResolver → ⊥
+pub bad_only_instance : (add_of (Some Default) [] (bytes "u") fresh_of).answer ≡ Err BadResolver → ⊥
 unfolding BadOnly call_of
-bad_only_instance = bad_only fresh_of fresh_proper.valid (add Default [] (bytes "u"))
+bad_only_instance = bad_only fresh_of fresh_proper.valid (add (Some Default) [] (bytes "u"))
 
 pub sized_stays_instance : length (pop_of fresh_of).resolver.text ≡ TEXT
 unfolding SizedStays call_of
 sized_stays_instance = (sized_stays fresh_of fresh_proper.sized pop).text
 
-pub never_lends_instance : ((push_of inner_tag 0 fresh_of).answer ≡ LendMore → ⊥) × ((push_of inner_tag 0 fresh_of).answer ≡ WrongLength → ⊥)
+pub never_lends_instance : ((push_of inner_tag 0 fresh_of).answer ≡ Err LendMore → ⊥) × ((push_of inner_tag 0 fresh_of).answer ≡ Err WrongLength → ⊥)
 unfolding NeverLends call_of
 never_lends_instance = never_lends fresh_of (push inner_tag 0)
 
-pub follow_instance : seen (push_of outer_tag 0 fresh_of) ≡ told Done (scopes (outer []) 1 LIMIT)
+pub follow_instance : seen (push_of outer_tag 0 fresh_of) ≡ told (Ok tt) (scopes (outer []) 1 LIMIT)
 unfolding ScopesFollow call_of
 follow_instance = scopes_follow fresh_of fresh_proper (push outer_tag 0) ∙ ap (call_in (push outer_tag 0)) fresh_none ∙ history_example.4
 
@@ -122,7 +122,7 @@ sums_instance =
       s.records ∙ ap (λ (l : List Made). 2 + length l) h,
     )
 
-pub answers_instance : answers_by (history []) fresh_of ≡ Done ∷ InvalidXmlnsPrefixBind 26 27 ∷ Done ∷ []
+pub answers_instance : answers_by (history []) fresh_of ≡ Ok tt ∷ Err (InvalidXmlnsPrefixBind 26 27) ∷ Ok tt ∷ []
 unfolding AnswersFollow
 answers_instance = answers_follow (history []) ∙ history_example.0
 
@@ -131,7 +131,7 @@ answers_instance = answers_follow (history []) ∙ history_example.0
 abbrev empty : NamespaceResolver
 empty = resolver_of [] [] (head_of 0 0 0 LIMIT)
 
-pub bad_stays_instance : push_of outer_tag 0 empty ≡ changed BadResolver empty
+pub bad_stays_instance : push_of outer_tag 0 empty ≡ changed (Err BadResolver) empty
 unfolding BadStays call_of tests_form valid_of is_table is_within opens_built_in
 bad_stays_instance = bad_stays empty refl (push outer_tag 0) refl
 
@@ -159,7 +159,7 @@ unfolding level_arm_by level_arm_of kept_at last_below valid_of is_table is_with
 clears_example = (refl, refl)
 
 -- 12 to 15 let this prefix through, whole.
-p_binds : judge_of Named (bytes "p") (bytes "v") (wholly (bytes "p") (bytes "v")) ≡ Bind 1
+p_binds : judge_of (Some Named) (bytes "p") (bytes "v") (wholly (bytes "p") (bytes "v")) ≡ Ok (Some 1)
 unfolding judge_of named_of reserved_bind is_xml is_xmlns is_xml_uri is_xmlns_uri xml_prefix xmlns_prefix xml_uri xmlns_uri same_bytes bytes bytes_from
 p_binds = refl
 
@@ -168,19 +168,19 @@ p_binds = refl
 abbrev closed : List Call
 closed = set_limit 0 ∷ []
 
-pub sixteen_instance : (add_of Named (bytes "p") (bytes "v") (left_by closed fresh_of)).answer ≡ TooManyBindings 0
+pub sixteen_instance : (add_of (Some Named) (bytes "p") (bytes "v") (left_by closed fresh_of)).answer ≡ Err (TooManyBindings 0)
 unfolding SixteenExactly ScopeSums ReachedValid scopes_after call_in no_scopes
 sixteen_instance =
     let x = left_by closed fresh_of in
     let limit : x.head.limit ≡ 0 = (scope_sums closed).limit in
-    (sixteen_exactly x (reached_valid closed).valid Named (bytes "p") (bytes "v") 1 p_binds).1 (omega arith) ∙ ap TooManyBindings limit
+    (sixteen_exactly x (reached_valid closed).valid (Some Named) (bytes "p") (bytes "v") 1 p_binds).1 (omega arith) ∙ ap (λ (n : ℕ). Err (TooManyBindings n)) limit
 
 -- 18: with a limit of 2,000, 1,024 bindings of no bytes fill the records.
 
 abbrev one : Call
-one = add Default [] []
+one = add (Some Default) [] []
 
-one_in : (t : Scopes) → length t.bound < 1024 → length t.bound < t.limit → size_of t.bound ≡ 0 → call_in one t ≡ told Done (bind_in t [] [])
+one_in : (t : Scopes) → length t.bound < 1024 → length t.bound < t.limit → size_of t.bound ≡ 0 → call_in one t ≡ told (Ok tt) (bind_in t [] [])
 unfolding call_in declare_in settle_in judge_of room_for
 one_in t few within nothing =
     rw (lt-leb t.limit (length t.bound) within, lt-leb RECORDS (2 + length t.bound) (omega arith), le-ltb TEXT (73 + size_of t.bound + 0) (omega arith))
@@ -207,7 +207,7 @@ grown (suc n) t few within nothing =
 abbrev filling : List Call
 filling = set_limit 2000 ∷ replicate 1024 one
 
-pub eighteen_instance : (add_of Named (bytes "p") (bytes "v") (left_by filling fresh_of)).answer ≡ BindingTableFull
+pub eighteen_instance : (add_of (Some Named) (bytes "p") (bytes "v") (left_by filling fresh_of)).answer ≡ Err BindingTableFull
 unfolding EighteenExactly ScopeSums ReachedValid scopes_after call_in no_scopes size_of
 eighteen_instance =
     let x = left_by filling fresh_of in
@@ -215,18 +215,18 @@ eighteen_instance =
     let g = grown 1024 (scopes [] 0 2000) (omega arith) (omega arith) refl in
     let count : x.head.count ≡ RECORDS = s.records ∙ ap (λ (n : ℕ). 2 + n) g.bound in
     let limit : x.head.limit ≡ 2000 = s.limit ∙ g.limit in
-    (eighteen_exactly x (reached_valid filling).valid Named (bytes "p") (bytes "v") 1 p_binds).1 (omega arith, count)
+    (eighteen_exactly x (reached_valid filling).valid (Some Named) (bytes "p") (bytes "v") 1 p_binds).1 (omega arith, count)
 
 -- 19: one value of 65,463 bytes, 73 being built in, fills the text.
 
 abbrev longest : Call
-longest = add Default [] (replicate 65463 0)
+longest = add (Some Default) [] (replicate 65463 0)
 
-long_in : (v : List ℕ) → length v ≡ 65463 → call_in (add Default [] v) no_scopes ≡ told Done (bind_in no_scopes [] v)
+long_in : (v : List ℕ) → length v ≡ 65463 → call_in (add (Some Default) [] v) no_scopes ≡ told (Ok tt) (bind_in no_scopes [] v)
 unfolding call_in declare_in settle_in judge_of room_for no_scopes size_of
 long_in v e = rw e
 
-pub nineteen_instance : (add_of Named (bytes "p") (bytes "v") (left_by (longest ∷ []) fresh_of)).answer ≡ TextFull
+pub nineteen_instance : (add_of (Some Named) (bytes "p") (bytes "v") (left_by (longest ∷ []) fresh_of)).answer ≡ Err TextFull
 unfolding NineteenExactly ScopeSums ReachedValid scopes_after bind_in no_scopes size_of bytes bytes_from
 nineteen_instance =
     let x = left_by (longest ∷ []) fresh_of in
@@ -235,4 +235,4 @@ nineteen_instance =
     let used : x.head.used ≡ TEXT = s.text ∙ ap (λ (t : Scopes). 73 + size_of t.bound) left ∙ omega (arith, length-replicate {A = ℕ} 65463 0) in
     let count : x.head.count ≡ 3 = s.records ∙ ap (λ (t : Scopes). 2 + length t.bound) left in
     let limit : x.head.limit ≡ LIMIT = s.limit ∙ ap (λ (t : Scopes). t.limit) left in
-    (nineteen_exactly x (reached_valid (longest ∷ [])).valid Named (bytes "p") (bytes "v") 1 p_binds).1 (omega arith, (omega arith, omega arith))
+    (nineteen_exactly x (reached_valid (longest ∷ [])).valid (Some Named) (bytes "p") (bytes "v") 1 p_binds).1 (omega arith, (omega arith, omega arith))

@@ -7,18 +7,17 @@ use native.Mathlib.Omega.{arith}
 use lib.Dec.{leb, ltb}
 use lib.ListN.{length, take}
 use borrow.Author.Tests.{leb-false}
+use Rattle.std.specs.Prelude.{Ok, Err, Some, None}
 use Rattle.scan.specs.First.{pick}
 use Rattle.scope_table.specs.Records.{prefix_in, value_in}
 use Rattle.scope_table.specs.Table.{TEXT, RECORDS, DEEPEST, head_of}
 use Rattle.scope_table.specs.Answer.{is_done}
 use Rattle.scope_table.specs.declared.NamespaceResolver.{NamespaceResolver}
-use Rattle.scope_table.specs.declared.NamespaceResult.TheVariants.{Done, TooManyBindings, BindingTableFull, TextFull}
+use Rattle.scope_table.specs.declared.NamespaceError.TheVariants.{TooManyBindings, BindingTableFull, TextFull}
 use Rattle.scope_table.specs.declared.Changed.{Changed}
 use Rattle.scope_table.proofs.Good.{Shaped, form_of_lem}
 use Rattle.scope_change.specs.Change.{whole, bound_of, refusal_of, append_of, kept_of, dropped_of, level_of}
-use Rattle.scope_declare.specs.declared.Judged.{Judged}
-use Rattle.scope_declare.specs.declared.Judged.TheVariants.{Keep, Bind}
-use Rattle.scope_declare.specs.Declare.{places_of, judge_of, settle_of, declare_of, add_of, pop_of, limited_of}
+use Rattle.scope_declare.specs.Declare.{Judged, places_of, judge_of, settle_of, declare_of, add_of, pop_of, limited_of}
 use Rattle.scope_push.specs.Push.{Declaration, declarations_of, tag_answers, then_of, declare_all, raised_of, push_of}
 use Rattle.law_scopes.specs.Calls.{add, push, pop, set_level, set_limit, call_of}
 use Rattle.law_scopes.specs.Scopes.{ScopesTold, told, size_of, room_for, bind_in, settle_in, declare_in, declare_all_in, level_in, call_in}
@@ -37,7 +36,7 @@ seen_pick false c d a b f g = g refl
 -- 16, 18 and 19 by the number of bindings and their sum
 room_as : (used count level limit bound sum size : ℕ) → count ≡ 2 + bound → used ≡ 73 + sum →
     refusal_of whole (head_of used count level limit) size
-    ≡ pick (leb limit bound) (TooManyBindings limit) (pick (leb RECORDS (2 + bound)) BindingTableFull (pick (ltb TEXT (73 + sum + size)) TextFull Done))
+    ≡ pick (leb limit bound) (Err (TooManyBindings limit)) (pick (leb RECORDS (2 + bound)) (Err BindingTableFull) (pick (ltb TEXT (73 + sum + size)) (Err TextFull) (Ok tt)))
 unfolding refusal_of
 room_as used count level limit bound sum size c u =
     let k : count - 2 ≡ bound = omega arith in
@@ -60,16 +59,17 @@ module _ (x : NamespaceResolver) (g : Proper x) where
   bound_seen p v r = rw (bound_made x g.sized p v r f)
 
   append_seen : (p v : List ℕ) → seen (append_of whole p v x)
-      ≡ pick (is_done (room_for (scopes_of x) p v)) (told Done (bind_in (scopes_of x) p v)) (told (room_for (scopes_of x) p v) (scopes_of x))
+      ≡ pick (is_done (room_for (scopes_of x) p v)) (told (Ok tt) (bind_in (scopes_of x) p v)) (told (room_for (scopes_of x) p v) (scopes_of x))
   unfolding append_of seen
   append_seen p v =
       rw (← room_seen p v)
-      (seen_pick (is_done (refusal x p v)) _ _ _ _ (λ e. ap (told Done) (bound_seen p v (room_of_lem x p v e))) (λ e. refl))
+      (seen_pick (is_done (refusal x p v)) _ _ _ _ (λ e. ap (told (Ok tt)) (bound_seen p v (room_of_lem x p v e))) (λ e. refl))
 
   settle_seen : (j : Judged) (p v : List ℕ) → seen (settle_of whole j p v x) ≡ settle_in j (scopes_of x) p v
   unfolding settle_of settle_in seen
-  settle_seen (Keep a) p v = refl
-  settle_seen (Bind n) p v = append_seen (take n p) v
+  settle_seen (Err a) p v = refl
+  settle_seen (Ok None) p v = refl
+  settle_seen (Ok (Some n)) p v = append_seen (take n p) v
 
   declare_seen : (d : Declaration) → seen (declare_of whole d.kind d.prefix d.value d.at x) ≡ declare_in d (scopes_of x)
   unfolding declare_of declare_in
@@ -79,7 +79,7 @@ module _ (x : NamespaceResolver) (g : Proper x) where
   unfolding scopes_of level_in dropped_of kept_of
   dropped_seen to = rw (dropped_made x g.sized f to)
 
-  level_seen : (to : ℕ) → seen (level_of to x) ≡ told Done (level_in to (scopes_of x))
+  level_seen : (to : ℕ) → seen (level_of to x) ≡ told (Ok tt) (level_in to (scopes_of x))
   unfolding level_of seen
   level_seen to = rw (g.valid, dropped_seen to)
 

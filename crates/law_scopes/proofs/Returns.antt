@@ -6,17 +6,14 @@ use mathlib.Core.List.{List, [], ◌∷◌, ◌++◌, append-nil, append_assoc}
 use native.Mathlib.Omega.{arith}
 use lib.ListN.{take}
 use borrow.Author.Tests.{lt-leb}
+use Rattle.std.specs.Prelude.{Ok, Some, None, Err}
 use Rattle.scan.proofs.Laws.{picks}
 use Rattle.scope_table.specs.Table.{DEEPEST}
-use Rattle.scope_table.specs.Answer.{is_done, changed}
+use Rattle.scope_table.specs.Answer.{is_done, changed, NamespaceResult}
 use Rattle.scope_table.specs.declared.NamespaceResolver.{NamespaceResolver}
 use Rattle.scope_table.specs.declared.Changed.{Changed}
-use Rattle.scope_table.specs.declared.NamespaceResult.{NamespaceResult}
-use Rattle.scope_table.specs.declared.NamespaceResult.TheVariants.{Done}
 use Rattle.scope_table.proofs.Good.{form_of_lem}
-use Rattle.scope_declare.specs.declared.Judged.{Judged}
-use Rattle.scope_declare.specs.declared.Judged.TheVariants.{Keep, Bind}
-use Rattle.scope_declare.specs.Declare.{judge_of, pop_of}
+use Rattle.scope_declare.specs.Declare.{Judged, judge_of, pop_of}
 use Rattle.scope_push.specs.Push.{Declaration, declarations_of, tag_answers, push_of}
 use Rattle.law_scopes.specs.Calls.{push, pop, call_of}
 use Rattle.law_scopes.specs.Scopes.{Made, made, Scopes, scopes, ScopesTold, told, room_for, bind_in, settle_in, declare_in, declare_all_in, up_to, level_in, call_in}
@@ -50,8 +47,9 @@ module _ (t : Scopes) where
 
   settle_grows : (j : Judged) (u : Scopes) (p v : List ℕ) → Grown t u → Grown t (settle_in j u p v).scopes
   unfolding settle_in
-  settle_grows (Keep a) u p v h = h
-  settle_grows (Bind n) u p v h =
+  settle_grows (Err a) u p v h = h
+  settle_grows (Ok None) u p v h = h
+  settle_grows (Ok (Some n)) u p v h =
       picks (λ (r : ScopesTold). Grown t r.scopes) (is_done (room_for u (take n p) v)) (λ e. bind_grows u (take n p) v h) (λ e. h)
 
   all_grow : (ds : List Declaration) (u : Scopes) → Grown t u → Grown t (declare_all_in ds u).scopes
@@ -68,7 +66,7 @@ module _ (t : Scopes) where
       (all_grow (declarations_of s (tag_answers s from)) (scopes t.bound (t.level + 1) t.limit)
       (record { new = []; bound = sym (append-nil t.bound); higher = refl; level = refl; limit = refl }))
 
-  pop_back : (u : Scopes) → up_to t.level t.bound ≡ t.bound → Grown t u → call_in pop u ≡ told Done t
+  pop_back : (u : Scopes) → up_to t.level t.bound ≡ t.bound → Grown t u → call_in pop u ≡ told (Ok tt) t
   unfolding call_in level_in
   pop_back u w a =
       let e : u.level - 1 ≡ t.level = omega (arith, a.level) in
@@ -96,6 +94,6 @@ push_pop_returns x sized valid d tag from =
     let z = pop_of y in
     let pushed : (call_in (push tag from) (scopes_of x)).scopes ≡ scopes_of y = sym (ap (λ (r : ScopesTold). r.scopes) (scopes_follow x g (push tag from))) in
     let grown = subst (Grown (scopes_of x)) pushed (push_grows (scopes_of x) tag from (omega (arith, d))) in
-    let popped : seen z ≡ told Done (scopes_of x) = scopes_follow y h pop ∙ pop_back (scopes_of x) (scopes_of y) (all_within x g) grown in
-    changed_is z Done x (ap (λ (r : ScopesTold). r.answer) popped)
+    let popped : seen z ≡ told (Ok tt) (scopes_of x) = scopes_follow y h pop ∙ pop_back (scopes_of x) (scopes_of y) (all_within x g) grown in
+    changed_is z (Ok tt) x (ap (λ (r : ScopesTold). r.answer) popped)
     (scopes_determine z.resolver x (valid_stays y h pop) g (ap (λ (r : ScopesTold). r.scopes) popped))

@@ -6,7 +6,7 @@ use lib.ListN.{length}
 use Rattle.scan.specs.Lists.{list_to}
 use Rattle.scope_table.specs.Table.{fresh_of}
 use Rattle.scope_table.specs.declared.NamespaceResolver.{NamespaceResolver}
-use Rattle.scope_table.specs.declared.NamespaceResult.{NamespaceResult}
+use Rattle.scope_table.specs.Answer.{NamespaceResult}
 use Rattle.scope_table.proofs.Good.{form_of_lem}
 use Rattle.law_scopes.specs.Calls.{Call, call_of, left_by, answers_by}
 use Rattle.law_scopes.specs.Scopes.{Made, Scopes, ScopesTold, no_scopes, size_of, scopes_after, answers_in}

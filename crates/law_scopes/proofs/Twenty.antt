@@ -6,17 +6,17 @@ use mathlib.Core.Bool.{Bool, true, false, false≢true, true≢false}
 use mathlib.Core.List.{List, [], ◌∷◌}
 use lib.Dec.{eqb, leb, ltb}
 use lib.ListN.{length, take, get_or}
+use Rattle.std.specs.Prelude.{Err, Option, Some, None, Result, Ok}
 use Rattle.scan.proofs.Laws.{picks}
 use Rattle.name.specs.Bind.{reserved_bind}
 use Rattle.name.specs.declared.PrefixDeclaration.{PrefixDeclaration}
-use Rattle.name.specs.declared.PrefixDeclaration.TheVariants.{Nothing, Default, Named}
-use Rattle.name.specs.declared.NamedCheck.{NamedCheck}
-use Rattle.name.specs.declared.NamedCheck.TheVariants as Check
+use Rattle.name.specs.declared.PrefixDeclaration.TheVariants.{Default, Named}
+use Rattle.name.specs.declared.ReservedBinding.{ReservedBinding}
+use Rattle.name.specs.declared.ReservedBinding.TheVariants as Check
 use Rattle.scope_table.specs.Table.{TEXT, RECORDS, DEEPEST, valid_of}
-use Rattle.scope_table.specs.Answer.{change_numbers, is_done, changed}
+use Rattle.scope_table.specs.Answer.{change_numbers, is_done, changed, NamespaceResult}
 use Rattle.scope_table.specs.declared.NamespaceResolver.{NamespaceResolver}
-use Rattle.scope_table.specs.declared.NamespaceResult.{NamespaceResult}
-use Rattle.scope_table.specs.declared.NamespaceResult.TheVariants.{BadResolver, LendMore, WrongLength}
+use Rattle.scope_table.specs.declared.NamespaceError.TheVariants.{BadResolver, LendMore, WrongLength}
 use Rattle.scope_table.specs.declared.Changed.{Changed}
 use Rattle.scope_change.specs.Change.{whole, refusal_of, append_of, level_of}
 use Rattle.scope_declare.specs.declared.Places.{Places}
@@ -54,20 +54,20 @@ append_other x p v =
     picks (λ (c : Changed). Other c.answer) (is_done (refusal x p v)) (λ e. refl) (λ e. refusal_other x p v)
 
 module _ (x : NamespaceResolver) (p v : List ℕ) (at : Places) where
-  named_other : (k : NamedCheck) → Other (settle_of whole (named_of k p at) p v x).answer
+  named_other : (k : Result Bool ReservedBinding) → Other (settle_of whole (named_of k p at) p v x).answer
   unfolding Other settle_of named_of change_numbers
-  named_other Check.Fine = append_other x (take (length p) p) v
-  named_other Check.AddsNothing = refl
-  named_other Check.InvalidXmlPrefixBind = refl
-  named_other Check.InvalidXmlnsPrefixBind = refl
-  named_other Check.InvalidPrefixForXml = refl
-  named_other Check.InvalidPrefixForXmlns = refl
+  named_other (Ok true) = append_other x (take (length p) p) v
+  named_other (Ok false) = refl
+  named_other (Err Check.InvalidXmlPrefixBind) = refl
+  named_other (Err Check.InvalidXmlnsPrefixBind) = refl
+  named_other (Err Check.InvalidPrefixForXml) = refl
+  named_other (Err Check.InvalidPrefixForXmlns) = refl
 
-  declare_other : (d : PrefixDeclaration) → Other (declare_of whole d p v at x).answer
+  declare_other : (d : Option PrefixDeclaration) → Other (declare_of whole d p v at x).answer
   unfolding Other declare_of judge_of settle_of change_numbers
-  declare_other Nothing = refl
-  declare_other Default = append_other x (take 0 p) v
-  declare_other Named = named_other (reserved_bind p v)
+  declare_other None = refl
+  declare_other (Some Default) = append_other x (take 0 p) v
+  declare_other (Some Named) = named_other (reserved_bind p v)
 
 all_other : (ds : List Declaration) (x : NamespaceResolver) → Other (declare_all whole ds x).answer
 unfolding Other declare_all then_of change_numbers
@@ -93,25 +93,25 @@ not_other a b o n e = true≢false (sym o ∙ ap (λ (r : NamespaceResult). ltb 
 
 pub bad_only : BadOnly
 unfolding BadOnly change_numbers
-bad_only x e c b = not_other (call_of c x).answer BadResolver (call_other x e c) refl b
+bad_only x e c b = not_other (call_of c x).answer (Err BadResolver) (call_other x e c) refl b
 
 -- 98 and 99: on a resolver of the right form no answer has such a number, and on another it is 20, or that of the limit.
 
 module _ (x : NamespaceResolver) where
   Never : Changed → Type 0
-  Never c = (c.answer ≡ LendMore → ⊥) × (c.answer ≡ WrongLength → ⊥)
+  Never c = (c.answer ≡ Err LendMore → ⊥) × (c.answer ≡ Err WrongLength → ⊥)
 
   other_never : (c : Changed) → Other c.answer → Never c
   unfolding Never change_numbers
-  other_never c o = (not_other c.answer LendMore o refl, not_other c.answer WrongLength o refl)
+  other_never c o = (not_other c.answer (Err LendMore) o refl, not_other c.answer (Err WrongLength) o refl)
 
   -- the numbers themselves, for an answer that is 20
   differ : (a b : NamespaceResult) → eqb (get_or (change_numbers a) 0 0) (get_or (change_numbers b) 0 0) ≡ false → eqb (get_or (change_numbers b) 0 0) (get_or (change_numbers b) 0 0) ≡ true → a ≡ b → ⊥
   differ a b n t e = true≢false (sym t ∙ sym (ap (λ (r : NamespaceResult). eqb (get_or (change_numbers r) 0 0) (get_or (change_numbers b) 0 0)) e) ∙ n)
 
-  bad_never : Never (changed BadResolver x)
+  bad_never : Never (changed (Err BadResolver) x)
   unfolding Never change_numbers
-  bad_never = (differ BadResolver LendMore refl refl, differ BadResolver WrongLength refl refl)
+  bad_never = (differ (Err BadResolver) (Err LendMore) refl refl, differ (Err BadResolver) (Err WrongLength) refl refl)
 
   tested_never : (c : Call) → tests_form c ≡ true → Never (call_of c x)
   unfolding BadStays

@@ -1,13 +1,12 @@
 -- What is promised of calls one after another.
-use Rattle.std.specs.Prelude.{ℕ, ◌+◌, ◌-◌, ◌≤◌, ◌<◌, ◌≡◌, true, false, List, ◌↔◌, length, take}
+use Rattle.std.specs.Prelude.{ℕ, ◌+◌, ◌-◌, ◌≤◌, ◌<◌, ◌≡◌, true, false, List, ◌↔◌, length, take, Ok, Err, Option, Some}
 use Rattle.name.specs.declared.PrefixDeclaration.{PrefixDeclaration}
 use Rattle.name.specs.Reserved.{xml_prefix, xmlns_prefix, xml_uri, xmlns_uri}
 use Rattle.scope_table.specs.Table.{TEXT, RECORDS, DEEPEST, valid_of, fresh_of}
 use Rattle.scope_table.specs.Answer.{changed}
 use Rattle.scope_table.specs.declared.NamespaceResolver.{NamespaceResolver}
-use Rattle.scope_table.specs.declared.NamespaceResult.TheVariants.{Done, TooManyBindings, BindingTableFull, TextFull, BadResolver, LendMore, WrongLength}
+use Rattle.scope_table.specs.declared.NamespaceError.TheVariants.{TooManyBindings, BindingTableFull, TextFull, BadResolver, LendMore, WrongLength}
 use Rattle.scope_declare.specs.Declare.{wholly, judge_of, add_of, pop_of}
-use Rattle.scope_declare.specs.declared.Judged.TheVariants.{Bind}
 use Rattle.scope_push.specs.Push.{push_of}
 use Rattle.law_scopes.specs.Sized.{Sized}
 use Rattle.law_scopes.specs.Calls.{Call, call_of, tests_form, left_by, answers_by}
@@ -19,7 +18,7 @@ use Rattle.law_scopes.specs.Made.{made_at, made_in, scopes_of, seen}
 unfoldable pub PushPopReturns : Type 0
 PushPopReturns =
     (x : NamespaceResolver) → Sized x → valid_of x ≡ true → x.head.level < DEEPEST → (tag : List ℕ) (from : ℕ) →
-    pop_of (push_of tag from x).resolver ≡ changed Done x
+    pop_of (push_of tag from x).resolver ≡ changed (Ok tt) x
 
 -- What 20 does not refuse, and the sizes of its arrays with it.
 pub record Proper (x : NamespaceResolver) : Type 0 where
@@ -36,10 +35,10 @@ ReachedValid = (calls : List Call) → Proper (left_by calls fresh_of)
 
 -- 20 comes exactly on the others, which it leaves as they were.
 unfoldable pub BadStays : Type 0
-BadStays = (x : NamespaceResolver) → valid_of x ≡ false → (c : Call) → tests_form c ≡ true → call_of c x ≡ changed BadResolver x
+BadStays = (x : NamespaceResolver) → valid_of x ≡ false → (c : Call) → tests_form c ≡ true → call_of c x ≡ changed (Err BadResolver) x
 
 unfoldable pub BadOnly : Type 0
-BadOnly = (x : NamespaceResolver) → valid_of x ≡ true → (c : Call) → (call_of c x).answer ≡ BadResolver → ⊥
+BadOnly = (x : NamespaceResolver) → valid_of x ≡ true → (c : Call) → (call_of c x).answer ≡ Err BadResolver → ⊥
 
 -- No call, refused by 20 or not, changes the size of an array.
 unfoldable pub SizedStays : Type 0
@@ -48,29 +47,29 @@ SizedStays = (x : NamespaceResolver) → Sized x → (c : Call) → Sized (call_
 -- The two answers of lent memory, 98 and 99, are no call's on a resolver itself.
 unfoldable pub NeverLends : Type 0
 NeverLends =
-    (x : NamespaceResolver) (c : Call) → ((call_of c x).answer ≡ LendMore → ⊥) × ((call_of c x).answer ≡ WrongLength → ⊥)
+    (x : NamespaceResolver) (c : Call) → ((call_of c x).answer ≡ Err LendMore → ⊥) × ((call_of c x).answer ≡ Err WrongLength → ⊥)
 
 -- `add` on a resolver that 20 does not refuse, of a binding that 12 to 15 let through, under the first n bytes of the prefix:
 -- all of it, or none for a default. 16 comes next: exactly if the bindings, the built-ins not counted, have reached the limit.
 unfoldable pub SixteenExactly : Type 0
 SixteenExactly =
     (x : NamespaceResolver) → valid_of x ≡ true →
-    (d : PrefixDeclaration) (prefix value : List ℕ) (n : ℕ) → judge_of d prefix value (wholly prefix value) ≡ Bind n →
-    (add_of d prefix value x).answer ≡ TooManyBindings x.head.limit ↔ (x.head.limit ≤ x.head.count - 2)
+    (d : Option PrefixDeclaration) (prefix value : List ℕ) (n : ℕ) → judge_of d prefix value (wholly prefix value) ≡ Ok (Some n) →
+    (add_of d prefix value x).answer ≡ Err (TooManyBindings x.head.limit) ↔ (x.head.limit ≤ x.head.count - 2)
 
 -- Where 16 does not come, 18 comes exactly if all 1,026 records are in use.
 unfoldable pub EighteenExactly : Type 0
 EighteenExactly =
     (x : NamespaceResolver) → valid_of x ≡ true →
-    (d : PrefixDeclaration) (prefix value : List ℕ) (n : ℕ) → judge_of d prefix value (wholly prefix value) ≡ Bind n →
-    (add_of d prefix value x).answer ≡ BindingTableFull ↔ ((x.head.count - 2 < x.head.limit) × (x.head.count ≡ RECORDS))
+    (d : Option PrefixDeclaration) (prefix value : List ℕ) (n : ℕ) → judge_of d prefix value (wholly prefix value) ≡ Ok (Some n) →
+    (add_of d prefix value x).answer ≡ Err BindingTableFull ↔ ((x.head.count - 2 < x.head.limit) × (x.head.count ≡ RECORDS))
 
 -- Where neither comes, so that a record is free, 19 comes exactly if text used plus both lengths exceeds 65,536.
 unfoldable pub NineteenExactly : Type 0
 NineteenExactly =
     (x : NamespaceResolver) → valid_of x ≡ true →
-    (d : PrefixDeclaration) (prefix value : List ℕ) (n : ℕ) → judge_of d prefix value (wholly prefix value) ≡ Bind n →
-    (add_of d prefix value x).answer ≡ TextFull
+    (d : Option PrefixDeclaration) (prefix value : List ℕ) (n : ℕ) → judge_of d prefix value (wholly prefix value) ≡ Ok (Some n) →
+    (add_of d prefix value x).answer ≡ Err TextFull
     ↔ ((x.head.count - 2 < x.head.limit)
     × ((x.head.count < RECORDS) × (TEXT < x.head.used + (length (take n prefix) + length value))))
 

@@ -1,14 +1,11 @@
 -- Scopes with no table: the declarations that calls have had accepted and not popped since, as a list, with the level and
 -- the limit. Nothing here is read off a record or a text; 16, 18 and 19 go by the list's length and its sum.
-use Rattle.std.specs.Prelude.{ℕ, ◌+◌, ◌-◌, Bool, List, [], ◌∷◌, ◌++◌, length, take, leb, ltb}
+use Rattle.std.specs.Prelude.{ℕ, ◌+◌, ◌-◌, Bool, List, [], ◌∷◌, ◌++◌, length, take, leb, ltb, Ok, Err, Some, None}
 use Rattle.scan.specs.First.{pick}
 use Rattle.scope_table.specs.Table.{TEXT, RECORDS, LIMIT, DEEPEST}
-use Rattle.scope_table.specs.Answer.{is_done}
-use Rattle.scope_table.specs.declared.NamespaceResult.{NamespaceResult}
-use Rattle.scope_table.specs.declared.NamespaceResult.TheVariants.{Done, TooManyBindings, TooDeeplyNested, BindingTableFull, TextFull}
-use Rattle.scope_declare.specs.declared.Judged.{Judged}
-use Rattle.scope_declare.specs.declared.Judged.TheVariants.{Keep, Bind}
-use Rattle.scope_declare.specs.Declare.{places_of, judge_of}
+use Rattle.scope_table.specs.Answer.{is_done, NamespaceResult}
+use Rattle.scope_table.specs.declared.NamespaceError.TheVariants.{TooManyBindings, TooDeeplyNested, BindingTableFull, TextFull}
+use Rattle.scope_declare.specs.Declare.{Judged, places_of, judge_of}
 use Rattle.scope_push.specs.Push.{Declaration, declarations_of, tag_answers}
 use Rattle.law_scopes.specs.Calls.{Call, add, push, pop, set_level, set_limit}
 
@@ -50,10 +47,10 @@ size_of (b ∷ more) = length b.prefix + length b.value + size_of more
 -- it built in, plus both lengths exceeds the capacity.
 unfoldable pub room_for : Scopes → (prefix value : List ℕ) → NamespaceResult
 room_for t p v =
-    pick (leb t.limit (length t.bound)) (TooManyBindings t.limit)
-    (pick (leb RECORDS (2 + length t.bound)) BindingTableFull
-    (pick (ltb TEXT (73 + size_of t.bound + (length p + length v))) TextFull
-    Done))
+    pick (leb t.limit (length t.bound)) (Err (TooManyBindings t.limit))
+    (pick (leb RECORDS (2 + length t.bound)) (Err BindingTableFull)
+    (pick (ltb TEXT (73 + size_of t.bound + (length p + length v))) (Err TextFull)
+    (Ok tt)))
 
 -- one more at the end, at the level that there is
 unfoldable pub bind_in : Scopes → (prefix value : List ℕ) → Scopes
@@ -61,16 +58,17 @@ bind_in t p v = scopes (t.bound ++ (made p v t.level ∷ [])) t.level t.limit
 
 -- a binding goes in where there is room for it; a refusal leaves the scopes as they were
 unfoldable pub settle_in : Judged → Scopes → (prefix value : List ℕ) → ScopesTold
-settle_in (Keep a) t p v = told a t
-settle_in (Bind n) t p v =
-    pick (is_done (room_for t (take n p) v)) (told Done (bind_in t (take n p) v)) (told (room_for t (take n p) v) t)
+settle_in (Err e) t p v = told (Err e) t
+settle_in (Ok None) t p v = told (Ok tt) t
+settle_in (Ok (Some n)) t p v =
+    pick (is_done (room_for t (take n p) v)) (told (Ok tt) (bind_in t (take n p) v)) (told (room_for t (take n p) v) t)
 
 unfoldable pub declare_in : Declaration → Scopes → ScopesTold
 declare_in d t = settle_in (judge_of d.kind d.prefix d.value d.at) t d.prefix d.value
 
 -- one after the other, up to the first refusal, which keeps what went in before it
 unfoldable pub declare_all_in : List Declaration → Scopes → ScopesTold
-declare_all_in [] t = told Done t
+declare_all_in [] t = told (Ok tt) t
 declare_all_in (d ∷ more) t =
     pick (is_done (declare_in d t).answer) (declare_all_in more (declare_in d t).scopes) (declare_in d t)
 
@@ -88,11 +86,11 @@ level_in level t = scopes (up_to level t.bound) level t.limit
 unfoldable pub call_in : Call → Scopes → ScopesTold
 call_in (add d p v) t = declare_in (record { kind = d; prefix = p; value = v; at = places_of 0 (length p) 0 (length v) }) t
 call_in (push s from) t =
-    pick (leb DEEPEST t.level) (told (TooDeeplyNested DEEPEST) t)
+    pick (leb DEEPEST t.level) (told (Err (TooDeeplyNested DEEPEST)) t)
     (declare_all_in (declarations_of s (tag_answers s from)) (scopes t.bound (t.level + 1) t.limit))
-call_in pop t = told Done (level_in (t.level - 1) t)
-call_in (set_level to h) t = told Done (level_in to t)
-call_in (set_limit limit) t = told Done (scopes t.bound t.level limit)
+call_in pop t = told (Ok tt) (level_in (t.level - 1) t)
+call_in (set_level to h) t = told (Ok tt) (level_in to t)
+call_in (set_limit limit) t = told (Ok tt) (scopes t.bound t.level limit)
 
 -- what a history of calls leaves standing, and what its calls answer, the first made first
 unfoldable pub scopes_after : List Call → Scopes → Scopes

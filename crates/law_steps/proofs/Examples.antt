@@ -7,6 +7,8 @@ use mathlib.Core.Bool.{Bool, true, false}
 use mathlib.Core.List.{List, [], ◌∷◌, map}
 use native.Mathlib.Omega.{arith}
 use lib.ListN.{length, get_or, replicate, length-replicate, get_or-replicate}
+use Rattle.std.proofs.Common.{Some}
+use Rattle.std.specs.Prelude.{None, Ok, Err}
 use Rattle.scan.specs.First.{first_of, first_to, first_from}
 use Rattle.scan.specs.Bytes.{is_space, not_space, ends_key, is_byte, part, same_bytes, bytes_from, bytes}
 use Rattle.tag_keys.specs.Hash.{times_prime, hash_from, hash_of}
@@ -15,10 +17,10 @@ use Rattle.tag_keys.proofs.Laws.{in_table}
 use Rattle.tag_step.specs.declared.Span.{Span}
 use Rattle.tag_step.specs.declared.Place.{Place}
 use Rattle.tag_step.specs.declared.Place.TheVariants.{Done, Next, SkipValue, SkipEqValue}
-use Rattle.tag_step.specs.declared.Start.TheVariants.{From}
 use Rattle.tag_step.specs.declared.KeyRead.TheVariants.{Valued}
-use Rattle.tag_step.specs.declared.Answer.{Answer}
-use Rattle.tag_step.specs.declared.Answer.TheVariants.{End, DoubleQ, SingleQ, Unquoted, Empty, ExpectedEq, ExpectedValue, UnquotedValue, ExpectedQuote, Duplicated, KeyTableFull, BadState}
+use Rattle.tag_step.specs.Answer.{Answer}
+use Rattle.tag_step.specs.declared.Attr.TheVariants.{DoubleQ, SingleQ, Unquoted, Empty}
+use Rattle.tag_step.specs.declared.AttrError.TheVariants.{ExpectedEq, ExpectedValue, UnquotedValue, ExpectedQuote, Duplicated, KeyTableFull, BadState}
 use Rattle.tag_step.specs.declared.IterState.{IterState}
 use Rattle.tag_step.specs.declared.Step.{Step}
 use Rattle.tag_step.specs.Read.{span, is_at, is_quote, skip_to, skip_of, recover_of, key_eq, key_to, key_from, key_at, quoted, closed_of, quoted_to, quoted_of, unquoted_to, other_of, value_by, value_from, value_at}
@@ -80,31 +82,31 @@ row tag state answer left = record { tag = tag; state = state; answer = answer; 
 abbrev table : List Row
 table =
     -- the end: only whitespace follows; done; past the end; a skip with no whitespace after it
-    row "a \t" (at (Next 1) false true 0 7 1 7 hash_a 7 1) End (at Done false true 0 7 1 7 hash_a 7 1)
-    ∷ row "a" (at Done true false 0 7 1 7 hash_a 7 1) End (at Done true false 0 7 1 7 hash_a 7 1)
-    ∷ row "a" (at (Next 2) false true 0 7 1 7 hash_a 7 1) End (at (Next 2) false true 0 7 1 7 hash_a 7 1)
-    ∷ row "a=1" (at (SkipValue 2) false true 0 7 1 7 hash_a 7 1) End (at (SkipValue 2) false true 0 7 1 7 hash_a 7 1)
+    row "a \t" (at (Next 1) false true 0 7 1 7 hash_a 7 1) None (at Done false true 0 7 1 7 hash_a 7 1)
+    ∷ row "a" (at Done true false 0 7 1 7 hash_a 7 1) None (at Done true false 0 7 1 7 hash_a 7 1)
+    ∷ row "a" (at (Next 2) false true 0 7 1 7 hash_a 7 1) None (at (Next 2) false true 0 7 1 7 hash_a 7 1)
+    ∷ row "a=1" (at (SkipValue 2) false true 0 7 1 7 hash_a 7 1) None (at (SkipValue 2) false true 0 7 1 7 hash_a 7 1)
     -- 1: at pos, and done where pos is the length
-    ∷ row "a b=''" (at (Next 0) false true 7 8 7 9 6 5 0) (ExpectedEq 2) (at (Next 2) false true 7 8 7 9 6 5 0)
-    ∷ row "a " (at (Next 0) false true 7 8 7 9 6 5 0) (ExpectedEq 2) (at Done false true 7 8 7 9 6 5 0)
+    ∷ row "a b=''" (at (Next 0) false true 7 8 7 9 6 5 0) (Some (Err (ExpectedEq 2))) (at (Next 2) false true 7 8 7 9 6 5 0)
+    ∷ row "a " (at (Next 0) false true 7 8 7 9 6 5 0) (Some (Err (ExpectedEq 2))) (at Done false true 7 8 7 9 6 5 0)
     -- 2, 3, 4: recorded, at the first unused place alone
-    ∷ row "a= " (at (Next 0) false true 7 8 7 9 6 5 0) (ExpectedValue 3) (at Done false true 0 8 1 9 hash_a 5 1)
-    ∷ row "a=1" (at (Next 0) false true 7 8 7 9 6 5 0) (UnquotedValue 2) (at (SkipValue 2) false true 0 8 1 9 hash_a 5 1)
-    ∷ row "a='1" (at (Next 0) true true 7 8 7 9 6 5 0) (ExpectedQuote 4 39) (at Done true true 0 8 1 9 hash_a 5 1)
+    ∷ row "a= " (at (Next 0) false true 7 8 7 9 6 5 0) (Some (Err (ExpectedValue 3))) (at Done false true 0 8 1 9 hash_a 5 1)
+    ∷ row "a=1" (at (Next 0) false true 7 8 7 9 6 5 0) (Some (Err (UnquotedValue 2))) (at (SkipValue 2) false true 0 8 1 9 hash_a 5 1)
+    ∷ row "a='1" (at (Next 0) true true 7 8 7 9 6 5 0) (Some (Err (ExpectedQuote 4 39))) (at Done true true 0 8 1 9 hash_a 5 1)
     -- and while checks are off, not
-    ∷ row "a=1" (at (Next 0) false false 7 8 7 9 6 5 0) (UnquotedValue 2) (at (SkipValue 2) false false 7 8 7 9 6 5 0)
+    ∷ row "a=1" (at (Next 0) false false 7 8 7 9 6 5 0) (Some (Err (UnquotedValue 2))) (at (SkipValue 2) false false 7 8 7 9 6 5 0)
     -- 5: from the `=`; a bare one at the next place, or done
-    ∷ row "a b a =1" (at (Next 3) false true 0 8 1 9 hash_a 5 1) (Duplicated 4 0) (at (SkipEqValue 6) false true 0 8 1 9 hash_a 5 1)
-    ∷ row "a a b" (at (Next 1) true true 0 8 1 9 hash_a 5 1) (Duplicated 2 0) (at (Next 4) true true 0 8 1 9 hash_a 5 1)
-    ∷ row "a a " (at (Next 1) true true 0 8 1 9 hash_a 5 1) (Duplicated 2 0) (at Done true true 0 8 1 9 hash_a 5 1)
+    ∷ row "a b a =1" (at (Next 3) false true 0 8 1 9 hash_a 5 1) (Some (Err (Duplicated 4 0))) (at (SkipEqValue 6) false true 0 8 1 9 hash_a 5 1)
+    ∷ row "a a b" (at (Next 1) true true 0 8 1 9 hash_a 5 1) (Some (Err (Duplicated 2 0))) (at (Next 4) true true 0 8 1 9 hash_a 5 1)
+    ∷ row "a a " (at (Next 1) true true 0 8 1 9 hash_a 5 1) (Some (Err (Duplicated 2 0))) (at Done true true 0 8 1 9 hash_a 5 1)
     -- 7, for its place and for a kept hash that is one more than its key's: all zero
-    ∷ row "a" (at (SkipValue 1) true false 0 8 1 9 hash_a 5 1) BadState (at Done true false 0 0 0 0 0 0 0)
-    ∷ row "a b=''" (at (Next 1) false true 0 8 1 9 (hash_a + 1) 5 1) BadState (at Done false true 0 0 0 0 0 0 0)
+    ∷ row "a" (at (SkipValue 1) true false 0 8 1 9 hash_a 5 1) (Some (Err BadState)) (at Done true false 0 0 0 0 0 0 0)
+    ∷ row "a b=''" (at (Next 1) false true 0 8 1 9 (hash_a + 1) 5 1) (Some (Err BadState)) (at Done false true 0 0 0 0 0 0 0)
     -- attributes
-    ∷ row "a=\"1\"" (at (Next 0) false true 7 8 7 9 6 5 0) (DoubleQ (span 0 1) (span 3 4)) (at (Next 5) false true 0 8 1 9 hash_a 5 1)
-    ∷ row "a b='2'" (at (Next 1) false true 0 8 1 9 hash_a 5 1) (SingleQ (span 2 3) (span 5 6)) (at (Next 7) false true 0 2 1 3 hash_a hash_b 2)
-    ∷ row "a=1" (at (Next 0) true true 7 8 7 9 6 5 0) (Unquoted (span 0 1) (span 2 3)) (at (Next 3) true true 0 8 1 9 hash_a 5 1)
-    ∷ row "a b" (at (Next 0) true true 7 8 7 9 6 5 0) (Empty (span 0 1)) (at (Next 2) true true 0 8 1 9 hash_a 5 1)
+    ∷ row "a=\"1\"" (at (Next 0) false true 7 8 7 9 6 5 0) (Some (Ok (DoubleQ (span 0 1) (span 3 4)))) (at (Next 5) false true 0 8 1 9 hash_a 5 1)
+    ∷ row "a b='2'" (at (Next 1) false true 0 8 1 9 hash_a 5 1) (Some (Ok (SingleQ (span 2 3) (span 5 6)))) (at (Next 7) false true 0 2 1 3 hash_a hash_b 2)
+    ∷ row "a=1" (at (Next 0) true true 7 8 7 9 6 5 0) (Some (Ok (Unquoted (span 0 1) (span 2 3)))) (at (Next 3) true true 0 8 1 9 hash_a 5 1)
+    ∷ row "a b" (at (Next 0) true true 7 8 7 9 6 5 0) (Some (Ok (Empty (span 0 1)))) (at (Next 2) true true 0 8 1 9 hash_a 5 1)
     ∷ []
 
 abbrev computed : Row → Step
@@ -144,17 +146,17 @@ good_row r good e = sym (next_steps (bytes r.tag) r.state good _ refl) ∙ e
 
 -- 6, with `=` and bare
 abbrev refused : Row
-refused = row "a b=''" (crowded (Next 1) false) (KeyTableFull 2) (crowded Done false)
+refused = row "a b=''" (crowded (Next 1) false) (Some (Err (KeyTableFull 2))) (crowded Done false)
 
 abbrev refused_bare : Row
-refused_bare = row "a b" (crowded (Next 1) true) (KeyTableFull 2) (crowded Done true)
+refused_bare = row "a b" (crowded (Next 1) true) (Some (Err (KeyTableFull 2))) (crowded Done true)
 
 -- with a full table a key that is recorded already is 5, and a bare XML key 1
 abbrev repeated : Row
-repeated = row "a a=''" (crowded (Next 1) false) (Duplicated 2 0) (crowded (SkipEqValue 3) false)
+repeated = row "a a=''" (crowded (Next 1) false) (Some (Err (Duplicated 2 0))) (crowded (SkipEqValue 3) false)
 
 abbrev bare : Row
-bare = row "a b c" (crowded (Next 1) false) (ExpectedEq 4) (crowded (Next 4) false)
+bare = row "a b c" (crowded (Next 1) false) (Some (Err (ExpectedEq 4))) (crowded (Next 4) false)
 
 full_rows : (computed refused ≡ written refused) × (computed refused_bare ≡ written refused_bare) × (computed repeated ≡ written repeated) × (computed bare ≡ written bare)
 unfolding first_of first_to first_from is_space not_space ends_key is_byte part same_bytes bytes_from bytes name_at same_key oldest_of earlier_of checked_by checked_of written_by count_by is_at is_quote skip_to skip_of recover_of key_eq key_to key_from key_at quoted closed_of quoted_to quoted_of unquoted_to other_of value_by value_from value_at check_of kept_by place_at bare_by bare_to bare_of valued_by valued_to valued_of read_key read_at step_from step_of keys_of leaves
@@ -171,7 +173,7 @@ abbrev tag : String → List ℕ
 tag t = bytes t
 
 -- a recorded key outside the tag is 7, though the place is done and checks are off
-pub seven_example : (next_of (tag "ab") (at Done false false 0 8 3 9 6 5 1)).answer ≡ BadState
+pub seven_example : (next_of (tag "ab") (at Done false false 0 8 3 9 6 5 1)).answer ≡ Some (Err BadState)
 unfolding SevenExactly bytes bytes_from
 seven_example = (seven_exactly (tag "ab") (at Done false false 0 8 3 9 6 5 1) (record { starts = refl; ends = refl; hashes = refl })).1 (outside_key 0 (omega arith) (omega arith))
 
@@ -181,7 +183,7 @@ unfolding SevenExactly
 seven_back = (seven_exactly (tag "ab") (at Done false false 0 8 3 9 6 5 1) (record { starts = refl; ends = refl; hashes = refl })).0 seven_example
 
 -- A kept hash that is one more than its key's is 7 as well.
-pub seven_hash_example : (next_of (tag "a") (at Done false false 0 8 1 9 (hash_a + 1) 5 1)).answer ≡ BadState
+pub seven_hash_example : (next_of (tag "a") (at Done false false 0 8 1 9 (hash_a + 1) 5 1)).answer ≡ Some (Err BadState)
 unfolding SevenExactly part bytes bytes_from times_prime hash_from hash_of name_at
 seven_hash_example =
     (seven_exactly (tag "a") (at Done false false 0 8 1 9 (hash_a + 1) 5 1) (record { starts = refl; ends = refl; hashes = refl })).1
@@ -204,7 +206,7 @@ six_new k lt e =
     let h : name_at six_tag (replicate capacity 0) (replicate capacity 1) k ≡ bytes "a" = rw (get_or-replicate {A = ℕ} capacity k 0 0 lt, get_or-replicate {A = ℕ} capacity k 1 0 lt) in
     let z : ◌≡◌ {A = ℕ} 97 98 = cc in omega arith
 
-pub six_example : (next_of six_tag (crowded (Next 1) false)).answer ≡ KeyTableFull 2
+pub six_example : (next_of six_tag (crowded (Next 1) false)).answer ≡ Some (Err (KeyTableFull 2))
 unfolding SixExactly first_of first_to first_from is_space not_space ends_key bytes_from bytes is_at recover_of key_eq key_to key_from key_at
 six_example =
     (six_exactly six_tag (crowded (Next 1) false) 2 (full_tables (Next 1) false)).1
@@ -226,11 +228,11 @@ pub three_leaves : RecordsIts three_tag (opened 0 false true) (next_of three_tag
 unfolding LeavesExact RowLeft first_of first_to first_from is_space not_space ends_key is_byte part same_bytes bytes_from bytes times_prime hash_from hash_of key_good hash_is key_bad count_good table_good name_at same_key oldest_of earlier_of checked_by checked_of written_by count_by is_at is_quote skip_to skip_of recover_of key_eq key_to key_from key_at quoted closed_of quoted_to quoted_of unquoted_to other_of value_by value_from value_at check_of kept_by place_at bare_by bare_to bare_of valued_by valued_to valued_of read_key read_at step_from step_of place_good keys_of state_good no_keys bad_reading leaves next_of opened
 three_leaves = leaves_exact three_tag (opened 0 false true)
 
-key_there : (from eq : ℕ) (key : Span) → From 0 ≡ From from → key_at three_tag from ≡ Valued key eq → key ≡ span 0 1
+key_there : (from eq : ℕ) (key : Span) → Some 0 ≡ Some from → key_at three_tag from ≡ Some (Valued key eq) → key ≡ span 0 1
 unfolding first_of first_to first_from is_space not_space ends_key bytes_from bytes is_at key_eq key_to key_from key_at
 key_there from eq key goes reads =
     let zero : from ≡ 0 = cc in
-    let here : Valued (span 0 1) 1 ≡ Valued key eq = subst (λ (o : ℕ). key_at three_tag o ≡ Valued key eq) zero reads in
+    let here : Some (Valued (span 0 1) 1) ≡ Some (Valued key eq) = subst (λ (o : ℕ). key_at three_tag o ≡ Some (Valued key eq)) zero reads in
     cc
 
 pub three_key : three_leaves.key ≡ span 0 1
@@ -251,14 +253,14 @@ only_spaces (suc (suc (suc k))) lo hi = absurd (omega arith)
 no_keys_whole : Broken spaces (opened 1 false true) → ⊥
 no_keys_whole = good_whole spaces (opened 1 false true) (opened_good spaces 1 false true)
 
-pub end_comes : (next_of spaces (opened 1 false true)).answer ≡ End
+pub end_comes : (next_of spaces (opened 1 false true)).answer ≡ None
 unfolding EndExactly recover_of opened no_keys bytes bytes_from
 end_comes =
     (end_exactly spaces (opened 1 false true) (record { starts = length-replicate {A = ℕ} capacity 0; ends = length-replicate {A = ℕ} capacity 0; hashes = length-replicate {A = ℕ} capacity 0 })).1 no_keys_whole
     (only_space 1 refl (omega arith) only_spaces)
 
 -- A skip with no whitespace after it is the end, and stays so.
-pub end_example : (next_of (tag "a=1") (next_of (tag "a=1") (at (SkipValue 2) false true 0 8 1 9 hash_a 5 1)).state).answer ≡ End
+pub end_example : (next_of (tag "a=1") (next_of (tag "a=1") (at (SkipValue 2) false true 0 8 1 9 hash_a 5 1)).state).answer ≡ None
 unfolding EndStays first_of first_to first_from is_space part bytes_from bytes times_prime hash_from hash_of name_at key_good hash_is key_bad count_good table_good skip_to skip_of recover_of step_from step_of place_good keys_of state_good leaves next_of
 end_example = ap (λ (x : Step). x.answer) (end_stays (tag "a=1") (at (SkipValue 2) false true 0 8 1 9 hash_a 5 1) refl)
 
@@ -270,8 +272,8 @@ pub forward_example : Forward (tag "a b a =1") (Next 3) (SkipEqValue 6)
 unfolding StepForward first_of first_to first_from is_space not_space ends_key is_byte part same_bytes bytes_from bytes times_prime hash_from hash_of key_good hash_is key_bad count_good table_good name_at same_key oldest_of earlier_of checked_by checked_of written_by count_by is_at is_quote skip_to skip_of recover_of key_eq key_to key_from key_at quoted closed_of quoted_to quoted_of unquoted_to other_of value_by value_from value_at check_of kept_by place_at bare_by bare_to bare_of valued_by valued_to valued_of read_key read_at step_from step_of place_good keys_of state_good no_keys bad_reading leaves next_of
 forward_example =
     step_forward (tag "a b a =1") five
-    (λ (e : Duplicated 4 0 ≡ End). let z : ◌≡◌ {A = ℕ} 0 1 = cc in omega arith)
-    (λ (e : Duplicated 4 0 ≡ BadState). let z : ◌≡◌ {A = ℕ} 0 1 = cc in omega arith)
+    (λ (e : Some (Err (Duplicated 4 0)) ≡ None). let z : ◌≡◌ {A = ℕ} 0 1 = cc in omega arith)
+    (λ (e : Some (Err (Duplicated 4 0)) ≡ Some (Err BadState)). let z : ◌≡◌ {A = ℕ} 0 1 = cc in omega arith)
 
 -- Two laws of the iterator that these stand on.
 
@@ -294,7 +296,7 @@ abbrev skipping : IterState
 skipping = at (SkipEqValue 1) false true 0 8 1 9 hash_a 5 1
 
 -- from the `=` on, the first whitespace, though it stands between quotes
-pub dead_quotes_example : (skip_arm_of (tag "a=\"2 3\" b") 1 ≡ other 1) × (crate_skip_eq_value_of (tag "a=\"2 3\" b") 1 ≡ From 4)
+pub dead_quotes_example : (skip_arm_of (tag "a=\"2 3\" b") 1 ≡ other 1) × (crate_skip_eq_value_of (tag "a=\"2 3\" b") 1 ≡ Some 4)
 unfolding DeadQuotes first_of first_to first_from is_space part bytes_from bytes times_prime hash_from hash_of name_at key_good hash_is key_bad count_good table_good is_at skip_to skip_of place_good keys_of state_good
 dead_quotes_example =
     let p = dead_quotes (tag "a=\"2 3\" b") skipping refl 1 refl in
@@ -302,7 +304,7 @@ dead_quotes_example =
 
 -- Where a quote stands at the place, the crate's branch would be taken and end at the closing quote; but that state is 7.
 pub quote_example :
-    (skip_arm_of (tag "a=\"2 3\" b") 2 ≡ quote 2 34) × (crate_skip_eq_value_of (tag "a=\"2 3\" b") 2 ≡ From 6)
-    × ((next_of (tag "a=\"2 3\" b") (at (SkipEqValue 2) false true 0 8 1 9 hash_a 5 1)).answer ≡ BadState)
+    (skip_arm_of (tag "a=\"2 3\" b") 2 ≡ quote 2 34) × (crate_skip_eq_value_of (tag "a=\"2 3\" b") 2 ≡ Some 6)
+    × ((next_of (tag "a=\"2 3\" b") (at (SkipEqValue 2) false true 0 8 1 9 hash_a 5 1)).answer ≡ Some (Err BadState))
 unfolding first_of first_to first_from is_space not_space is_byte part bytes_from bytes times_prime hash_from hash_of name_at key_good hash_is key_bad count_good table_good is_at is_quote skip_to skip_of place_good keys_of state_good bad_reading leaves next_of skip_arm_at skip_arm_of skip_arm_goes crate_skip_eq_value_of
 quote_example = (refl, refl, refl)

@@ -8,23 +8,21 @@ use native.Mathlib.Omega.{arith}
 use lib.ListN.{length, get_or}
 use lib.Dec.{eqb, ltb, leb}
 use borrow.Author.Tests.{ltb-true, ltb-false, leb-true, leb-false, eqb-true, eqb-false}
+use Rattle.std.proofs.Common.{Option, Some, None, Result, Ok, Err}
 use Rattle.scan.specs.First.{first_to, pick}
 use Rattle.scan.proofs.Laws.{picks, to_first, to_past}
 use Rattle.scan.proofs.Bytes.{both}
-use Rattle.tag_keys.specs.declared.Earlier.{Earlier}
-use Rattle.tag_keys.specs.declared.Earlier.TheVariants.{At, Nothing}
-use Rattle.tag_keys.specs.declared.Checked.{Checked}
-use Rattle.tag_keys.specs.declared.Checked.TheVariants.{Fresh, Same, Full}
+use Rattle.tag_keys.specs.declared.KeyRefusal.{KeyRefusal}
+use Rattle.tag_keys.specs.declared.KeyRefusal.TheVariants.{Same, Full}
 use Rattle.tag_keys.specs.Hash.{hash_of}
 use Rattle.tag_keys.specs.Keys.{capacity, name_at, key_good, hash_is, key_bad, table_good, earlier_of, checked_by, checked_of}
 use Rattle.tag_keys.proofs.Laws.{facts_hold, table_in, table_all, earlier_none, earlier_absent, checked_full}
 use Rattle.tag_step.specs.declared.Span.{Span}
 use Rattle.tag_step.specs.declared.Place.{Place}
 use Rattle.tag_step.specs.declared.Place.TheVariants.{Done, Next, SkipValue, SkipEqValue}
-use Rattle.tag_step.specs.declared.Start.{Start}
-use Rattle.tag_step.specs.declared.Start.TheVariants.{From, Ended}
-use Rattle.tag_step.specs.declared.Answer.{Answer}
-use Rattle.tag_step.specs.declared.Answer.TheVariants.{End, DoubleQ, SingleQ, Unquoted, Empty, ExpectedEq, ExpectedValue, UnquotedValue, ExpectedQuote, Duplicated, KeyTableFull, BadState}
+use Rattle.tag_step.specs.Answer.{Answer}
+use Rattle.tag_step.specs.declared.Attr.TheVariants.{DoubleQ, SingleQ, Unquoted, Empty}
+use Rattle.tag_step.specs.declared.AttrError.TheVariants.{ExpectedEq, ExpectedValue, UnquotedValue, ExpectedQuote, Duplicated, KeyTableFull, BadState}
 use Rattle.tag_step.specs.declared.Found.{Found}
 use Rattle.tag_step.specs.declared.IterState.{IterState}
 use Rattle.tag_step.specs.declared.Step.{Step}
@@ -133,25 +131,25 @@ module _ (s : List ℕ) (st : IterState) where
 record IsFull (s : List ℕ) (st : IterState) (key : Span) : Type 0 where
   checks : st.check_duplicates ≡ true
   full : capacity ≤ st.count
-  new : earlier_of s st.starts st.ends st.count key.start key.end ≡ Nothing
+  new : earlier_of s st.starts st.ends st.count key.start key.end ≡ None
 
 module _ (s : List ℕ) (st : IterState) where
   abbrev checks : Bool
   checks = st.check_duplicates
 
-  full_by : (key : Span) (e : Earlier) → earlier_of s st.starts st.ends st.count key.start key.end ≡ e → checks ≡ true → Full ≡ checked_by st.count e → IsFull s st key
+  full_by : (key : Span) (e : Option ℕ) → earlier_of s st.starts st.ends st.count key.start key.end ≡ e → checks ≡ true → Err Full ≡ checked_by st.count e → IsFull s st key
   unfolding checked_by
-  full_by key (At p) e on h = let z : ◌≡◌ {A = ℕ} 0 1 = cc in absurd (omega arith)
-  full_by key Nothing e on h =
-      picks (λ (c : Checked). Full ≡ c → IsFull s st key) (ltb st.count capacity)
+  full_by key (Some p) e on h = let z : ◌≡◌ {A = ℕ} 0 1 = cc in absurd (omega arith)
+  full_by key None e on h =
+      picks (λ (c : Result ℕ KeyRefusal). Err Full ≡ c → IsFull s st key) (ltb st.count capacity)
       (λ _ x. let z : ◌≡◌ {A = ℕ} 0 1 = cc in absurd (omega arith))
       (λ t x. record { checks = on; full = ltb-false st.count capacity t; new = e })
       h
 
-  full_means : (key : Span) → Full ≡ check_of s checks (keys_of st) key → IsFull s st key
+  full_means : (key : Span) → Err Full ≡ check_of s checks (keys_of st) key → IsFull s st key
   unfolding check_of checked_of keys_of
   full_means key = by checks refl where
-    by : (t : Bool) → checks ≡ t → Full ≡ pick t (checked_by st.count (earlier_of s st.starts st.ends st.count key.start key.end)) (Fresh st.count) → IsFull s st key
+    by : (t : Bool) → checks ≡ t → Err Full ≡ pick t (checked_by st.count (earlier_of s st.starts st.ends st.count key.start key.end)) (Ok st.count) → IsFull s st key
     by true e h = full_by key _ refl e h
     by false e h = let z : ◌≡◌ {A = ℕ} 0 1 = cc in absurd (omega arith)
 
@@ -163,18 +161,18 @@ module _ (s : List ℕ) (st : IterState) where
     start : key.start ≡ this
 
   unfoldable May : Answer → Type 0
-  May End = Unit {0}
-  May (DoubleQ k v) = Unit {0}
-  May (SingleQ k v) = Unit {0}
-  May (Unquoted k v) = Unit {0}
-  May (Empty k) = Unit {0}
-  May (ExpectedEq p) = Unit {0}
-  May (ExpectedValue l) = Unit {0}
-  May (UnquotedValue p) = Unit {0}
-  May (ExpectedQuote l q) = Unit {0}
-  May (Duplicated this earlier) = Unit {0}
-  May (KeyTableFull this) = Refused this
-  May BadState = ⊥
+  May None = Unit {0}
+  May (Some (Ok (DoubleQ k v))) = Unit {0}
+  May (Some (Ok (SingleQ k v))) = Unit {0}
+  May (Some (Ok (Unquoted k v))) = Unit {0}
+  May (Some (Ok (Empty k))) = Unit {0}
+  May (Some (Err (ExpectedEq p))) = Unit {0}
+  May (Some (Err (ExpectedValue l))) = Unit {0}
+  May (Some (Err (UnquotedValue p))) = Unit {0}
+  May (Some (Err (ExpectedQuote l q))) = Unit {0}
+  May (Some (Err (Duplicated this earlier))) = Unit {0}
+  May (Some (Err (KeyTableFull this))) = Refused this
+  May (Some (Err BadState)) = ⊥
 
   value_may : (key : Span) (eq : ℕ) → May (value_at s st.html key eq).answer
   unfolding May closed_of quoted
@@ -182,24 +180,24 @@ module _ (s : List ℕ) (st : IterState) where
       value_ways s st.html key eq _ refl (λ (x : Found) (_ : ℕ). May x.answer)
       (λ l. tt) (λ e l q b g. picks May (eqb (get_or s _ 0) 34) (λ _. tt) (λ _. tt)) (λ e l q b g. tt) (λ e l q m b. tt) (λ l q m. tt)
 
-  bare_may : (key : Span) (at : ℕ) (c : Checked) → Due s st key → c ≡ check_of s checks (keys_of st) key → May (bare_by s key at c).answer
+  bare_may : (key : Span) (at : ℕ) (c : Result ℕ KeyRefusal) → Due s st key → c ≡ check_of s checks (keys_of st) key → May (bare_by s key at c).answer
   unfolding May bare_by
-  bare_may key at (Fresh n) d v = tt
-  bare_may key at (Same p) d v = tt
-  bare_may key at Full d v = record { key = key; due = d; full = full_means key v; start = refl }
+  bare_may key at (Ok n) d v = tt
+  bare_may key at (Err (Same p)) d v = tt
+  bare_may key at (Err Full) d v = record { key = key; due = d; full = full_means key v; start = refl }
 
-  valued_may : (key : Span) (eq : ℕ) (c : Checked) → Due s st key → c ≡ check_of s checks (keys_of st) key → May (valued_by s st.html key eq c).answer
+  valued_may : (key : Span) (eq : ℕ) (c : Result ℕ KeyRefusal) → Due s st key → c ≡ check_of s checks (keys_of st) key → May (valued_by s st.html key eq c).answer
   unfolding May valued_by
-  valued_may key eq (Fresh n) d v = value_may key eq
-  valued_may key eq (Same p) d v = tt
-  valued_may key eq Full d v = record { key = key; due = d; full = full_means key v; start = refl }
+  valued_may key eq (Ok n) d v = value_may key eq
+  valued_may key eq (Err (Same p)) d v = tt
+  valued_may key eq (Err Full) d v = record { key = key; due = d; full = full_means key v; start = refl }
 
   step_may : May (step_of s st.html checks (keys_of st) st.place).answer
   unfolding step_of step_from May bare_to valued_to
   step_may = by (recover_of s st.place) refl where
-    by : (x : Start) → recover_of s st.place ≡ x → May (step_from s st.html checks (keys_of st) st.place x).answer
-    by Ended g = tt
-    by (From o) g =
+    by : (x : Option ℕ) → recover_of s st.place ≡ x → May (step_from s st.html checks (keys_of st) st.place x).answer
+    by None g = tt
+    by (Some o) g =
         step_ways s st.html checks (keys_of st) o (starts_in s st.place o g) (λ (x : Reading) (_ : ℕ). May x.answer)
         (λ e. tt)
         (λ key at e i m. tt)
@@ -211,7 +209,7 @@ module _ (s : List ℕ) (st : IterState) where
   unfolding leaves
   good_may g = subst (λ (x : Step). May x.answer) (next_steps s st g _ refl) step_may
 
-  bad_seven : state_good s st ≡ false → (next_of s st).answer ≡ BadState
+  bad_seven : state_good s st ≡ false → (next_of s st).answer ≡ Some (Err BadState)
   unfolding leaves bad_reading
   bad_seven b = ap (λ (x : Step). x.answer) (sym (next_bad s st b))
 
@@ -224,19 +222,19 @@ module _ (s : List ℕ) (st : IterState) where
 pub seven_exactly : SevenExactly
 unfolding SevenExactly May
 seven_exactly s st full = (comes (state_good s st) refl, λ b. bad_seven s st (broken_bad s st b)) where
-  comes : (t : Bool) → state_good s st ≡ t → (next_of s st).answer ≡ BadState → Broken s st
+  comes : (t : Bool) → state_good s st ≡ t → (next_of s st).answer ≡ Some (Err BadState) → Broken s st
   comes true g e = absurd (subst (May s st) e (good_may s st g))
   comes false g e = bad_broken s st full g
 
 module _ (s : List ℕ) (st : IterState) (this : ℕ) (full : FullTables st) where
   -- 6 says that the state was good
-  six_good : (next_of s st).answer ≡ KeyTableFull this → state_good s st ≡ true
+  six_good : (next_of s st).answer ≡ Some (Err (KeyTableFull this)) → state_good s st ≡ true
   six_good e = by (state_good s st) refl where
     by : (t : Bool) → state_good s st ≡ t → state_good s st ≡ true
     by true g = g
     by false g = let b = bad_seven s st g in let z : ◌≡◌ {A = ℕ} 0 1 = cc in absurd (omega arith)
 
-  six_means : (next_of s st).answer ≡ KeyTableFull this → NoRoom s st this
+  six_means : (next_of s st).answer ≡ Some (Err (KeyTableFull this)) → NoRoom s st this
   unfolding May state_good
   six_means e =
       let g = six_good e in
@@ -254,23 +252,23 @@ module _ (s : List ℕ) (st : IterState) (this : ℕ) (full : FullTables st) whe
       }
 
   -- the verdict on such a key
-  no_room_full : (n : NoRoom s st this) → Full ≡ check_of s st.check_duplicates (keys_of st) n.key
+  no_room_full : (n : NoRoom s st this) → Err Full ≡ check_of s st.check_duplicates (keys_of st) n.key
   unfolding check_of keys_of
   no_room_full n =
       sym (checked_full s st.check_duplicates st.starts st.ends st.count n.key.start n.key.end n.checks
       (earlier_none s st.starts st.ends st.count n.key.start n.key.end n.new) (omega (arith, n.full)))
 
-  due_refused : (key : Span) → Due s st key → Full ≡ check_of s st.check_duplicates (keys_of st) key → (step_of s st.html st.check_duplicates (keys_of st) st.place).answer ≡ KeyTableFull key.start
+  due_refused : (key : Span) → Due s st key → Err Full ≡ check_of s st.check_duplicates (keys_of st) key → (step_of s st.html st.check_duplicates (keys_of st) st.place).answer ≡ Some (Err (KeyTableFull key.start))
   unfolding valued_of valued_to valued_by bare_of bare_to bare_by
   due_refused key (valued eq d) f =
       ap (λ (x : Reading). x.answer) (sym (step_valued s st.html st.check_duplicates (keys_of st) st.place d.from d.goes key eq d.reads)) ∙ rw (sym f)
   due_refused key (bare at d) f =
       ap (λ (x : Reading). x.answer) (sym (step_bare s st.html st.check_duplicates (keys_of st) st.place d.from d.goes key at d.reads)) ∙ rw (sym f, d.html)
 
-  no_room_six : NoRoom s st this → (next_of s st).answer ≡ KeyTableFull this
+  no_room_six : NoRoom s st this → (next_of s st).answer ≡ Some (Err (KeyTableFull this))
   unfolding leaves
   no_room_six n =
-      ap (λ (x : Step). x.answer) (sym (next_steps s st (good (state_good s st) refl) _ refl)) ∙ due_refused n.key n.due (no_room_full n) ∙ ap KeyTableFull n.start where
+      ap (λ (x : Step). x.answer) (sym (next_steps s st (good (state_good s st) refl) _ refl)) ∙ due_refused n.key n.due (no_room_full n) ∙ ap (λ (x : ℕ). Some (Err (KeyTableFull x))) n.start where
         good : (t : Bool) → state_good s st ≡ t → state_good s st ≡ true
         good true g = g
         good false g = absurd (n.whole (bad_broken s st full g))

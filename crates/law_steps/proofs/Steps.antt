@@ -7,6 +7,8 @@ use mathlib.Core.Bool.{Bool, true, false, not}
 use mathlib.Core.List.{List}
 use native.Mathlib.Omega.{arith}
 use lib.ListN.{length, get_or}
+use Rattle.std.proofs.Common.{Option, Some, None}
+use Rattle.std.specs.Prelude.{Err}
 use Rattle.scan.specs.First.{first_from}
 use Rattle.scan.specs.Bytes.{is_space, not_space}
 use Rattle.scan.proofs.Laws.{past, skip}
@@ -14,11 +16,8 @@ use Rattle.scan.proofs.Bytes.{both}
 use Rattle.tag_keys.specs.Keys.{table_good}
 use Rattle.tag_step.specs.declared.Place.{Place}
 use Rattle.tag_step.specs.declared.Place.TheVariants.{Done, Next, SkipValue, SkipEqValue}
-use Rattle.tag_step.specs.declared.Start.{Start}
-use Rattle.tag_step.specs.declared.Start.TheVariants.{From, Ended}
-use Rattle.tag_step.specs.declared.KeyRead.TheVariants.{NoKey}
-use Rattle.tag_step.specs.declared.Answer.{Answer}
-use Rattle.tag_step.specs.declared.Answer.TheVariants.{End, BadState}
+use Rattle.tag_step.specs.Answer.{Answer}
+use Rattle.tag_step.specs.declared.AttrError.TheVariants.{BadState}
 use Rattle.tag_step.specs.declared.IterState.{IterState}
 use Rattle.tag_step.specs.declared.Step.{Step}
 use Rattle.tag_step.specs.Read.{found, recover_of, key_at}
@@ -33,29 +32,29 @@ use Rattle.law_steps.proofs.Refusals.{good_whole, bad_broken}
 -- The end.
 
 abbrev ended : IterState → Step
-ended st = record { answer = End; state = st }
+ended st = record { answer = None; state = st }
 
 module _ (s : List ℕ) (st : IterState) where
   -- 7 is not the end
-  end_good : (next_of s st).answer ≡ End → state_good s st ≡ true
+  end_good : (next_of s st).answer ≡ None → state_good s st ≡ true
   unfolding leaves bad_reading
   end_good e = by (state_good s st) refl where
     by : (t : Bool) → state_good s st ≡ t → state_good s st ≡ true
     by true g = g
     by false g =
-        let b : BadState ≡ (next_of s st).answer = ap (λ (x : Step). x.answer) (next_bad s st g) in
+        let b : Some (Err BadState) ≡ (next_of s st).answer = ap (λ (x : Step). x.answer) (next_bad s st g) in
         let z : ◌≡◌ {A = ℕ} 0 1 = cc in absurd (omega arith)
 
   -- a good state from whose place reading does not go on
-  stays : state_good s st ≡ true → recover_of s st.place ≡ Ended → next_of s st ≡ ended st
+  stays : state_good s st ≡ true → recover_of s st.place ≡ None → next_of s st ≡ ended st
   unfolding leaves keys_of
-  stays g e = sym (next_steps s st g (reading (found End st.place) (keys_of st)) (step_ended s st.html st.check_duplicates (keys_of st) st.place e))
+  stays g e = sym (next_steps s st g (reading (found None st.place) (keys_of st)) (step_ended s st.html st.check_duplicates (keys_of st) st.place e))
 
   done_good : state_good s st ≡ true → state_good s (moved_to Done st) ≡ true
   unfolding state_good place_good
   done_good g = rw (both (table_good s st.starts st.ends st.hashes st.count) (place_good s st.place) g).0
 
-  done_ended : recover_of s (moved_to Done st).place ≡ Ended
+  done_ended : recover_of s (moved_to Done st).place ≡ None
   unfolding recover_of
   done_ended = refl
 
@@ -75,18 +74,18 @@ end_stays s st e =
     end_leaves_stays s st (next_of s st).state (end_good s st e) l ∙ ap (λ (a : Answer). record { answer = a; state = (next_of s st).state }) (sym e)
 
 -- Where only whitespace follows no key is read.
-space_no_key : (s : List ℕ) (o : ℕ) → o ≤ length s → ((k : ℕ) → o ≤ k → k < length s → is_space (get_or s k 0) ≡ true) → NoKey ≡ key_at s o
+space_no_key : (s : List ℕ) (o : ℕ) → o ≤ length s → ((k : ℕ) → o ≤ k → k < length s → is_space (get_or s k 0) ≡ true) → None ≡ key_at s o
 unfolding not_space
 space_no_key s o h space =
     let f = skip not_space s o (length s) h (omega arith) (λ k lo hi. ap not (space k lo hi)) ∙ past not_space s (length s) (omega arith) in
     key_none s o (first_from not_space s o) refl (omega arith)
 
-nothing_ends : (s : List ℕ) (st : IterState) → state_good s st ≡ true → NothingLeft s st.place → (next_of s st).answer ≡ End
+nothing_ends : (s : List ℕ) (st : IterState) → state_good s st ≡ true → NothingLeft s st.place → (next_of s st).answer ≡ None
 unfolding leaves
 nothing_ends s st g (nowhere e) = ap (λ (x : Step). x.answer) (stays s st g e)
 nothing_ends s st g (only_space o goes inside space) =
     ap (λ (x : Step). x.answer)
-    (sym (next_steps s st g (reading (found End Done) (keys_of st))
+    (sym (next_steps s st g (reading (found None Done) (keys_of st))
     (step_none s st.html st.check_duplicates (keys_of st) st.place o goes (sym (space_no_key s o inside space)))))
 
 pub end_exactly : EndExactly
@@ -109,11 +108,11 @@ after_beyond s o (Next x) a = a
 after_beyond s o (SkipValue x) a = a
 after_beyond s o (SkipEqValue x) a = (a.0, at_in s 61 x a.1)
 
-module _ (s : List ℕ) (st : IterState) (more : (next_of s st).answer ≡ End → ⊥) (g : state_good s st ≡ true) where
-  goes_forward : (x : Start) → recover_of s st.place ≡ x → Forward s st.place (next_of s st).state.place
+module _ (s : List ℕ) (st : IterState) (more : (next_of s st).answer ≡ None → ⊥) (g : state_good s st ≡ true) where
+  goes_forward : (x : Option ℕ) → recover_of s st.place ≡ x → Forward s st.place (next_of s st).state.place
   unfolding leaves
-  goes_forward Ended e = absurd (more (ap (λ (y : Step). y.answer) (stays s st g e)))
-  goes_forward (From o) e =
+  goes_forward None e = absurd (more (ap (λ (y : Step). y.answer) (stays s st g e)))
+  goes_forward (Some o) e =
       let h = starts_in s st.place o e in
       let r = step_reads s st.html st.check_duplicates (keys_of st) st.place o e in
       record {

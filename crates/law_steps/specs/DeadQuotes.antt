@@ -1,10 +1,8 @@
 -- The crate's skip from `=`, with the branches that no state comes to, and the promise that none does: document 02, request 8.
-use Rattle.std.specs.Prelude.{ℕ, ◌+◌, ◌<◌, ◌≡◌, true, false, List, length, get_or, ltb}
+use Rattle.std.specs.Prelude.{ℕ, ◌+◌, ◌<◌, ◌≡◌, true, false, List, length, get_or, ltb, Option, None}
 use Rattle.scan.specs.First.{first_from, pick}
 use Rattle.scan.specs.Bytes.{not_space, is_byte}
 use Rattle.tag_step.specs.declared.Place.TheVariants.{SkipEqValue}
-use Rattle.tag_step.specs.declared.Start.{Start}
-use Rattle.tag_step.specs.declared.Start.TheVariants.{Ended}
 use Rattle.tag_step.specs.declared.IterState.{IterState}
 use Rattle.tag_step.specs.Read.{is_quote, skip_to, skip_of}
 use Rattle.tag_step.specs.Next.{state_good}
@@ -27,12 +25,12 @@ skip_arm_of s o = skip_arm_at s (first_from not_space s o)
 
 -- From a quote it goes to the next one of its kind, from another byte to whitespace, as `skip_value` does; where there is none,
 -- and where nothing was found, iteration ends.
-unfoldable pub skip_arm_goes : List ℕ → SkipArm → Start
+unfoldable pub skip_arm_goes : List ℕ → SkipArm → Option ℕ
 skip_arm_goes s (quote x b) = skip_to s (first_from (is_byte b) s (x + 1))
 skip_arm_goes s (other x) = skip_of s x
-skip_arm_goes s none = Ended
+skip_arm_goes s none = None
 
-unfoldable pub crate_skip_eq_value_of : List ℕ → ℕ → Start
+unfoldable pub crate_skip_eq_value_of : List ℕ → ℕ → Option ℕ
 crate_skip_eq_value_of s o = skip_arm_goes s (skip_arm_of s o)
 
 -- At o stands `=`, which is what that search finds first: so it finds no quote, and does what `skip_value` does.

@@ -1,6 +1,6 @@
 -- What is promised of one step of the iterator: document 01, "Numbers and what they leave", for refusals 6 and 7 and for
 -- the column "Leaves". Each promise is over `next_of`, what `next` answers and leaves of any tag and any state.
-use Rattle.std.specs.Prelude.{ℕ, ◌+◌, ◌≤◌, ◌<◌, ◌≡◌, true, List, length, get_or, set, replicate, ltb}
+use Rattle.std.specs.Prelude.{ℕ, ◌+◌, ◌≤◌, ◌<◌, ◌≡◌, true, List, length, get_or, set, replicate, ltb, None, Some, Ok, Err}
 use Rattle.scan.specs.First.{pick}
 use Rattle.scan.specs.Bytes.{is_space, part}
 use Rattle.tag_keys.specs.Hash.{hash_of}
@@ -8,10 +8,10 @@ use Rattle.tag_keys.specs.Keys.{capacity, name_at}
 use Rattle.tag_step.specs.declared.Span.{Span}
 use Rattle.tag_step.specs.declared.Place.{Place}
 use Rattle.tag_step.specs.declared.Place.TheVariants.{Done, Next, SkipValue, SkipEqValue}
-use Rattle.tag_step.specs.declared.Start.TheVariants.{From, Ended}
 use Rattle.tag_step.specs.declared.KeyRead.TheVariants.{Bare, Valued}
-use Rattle.tag_step.specs.declared.Answer.{Answer}
-use Rattle.tag_step.specs.declared.Answer.TheVariants.{End, DoubleQ, SingleQ, Unquoted, Empty, ExpectedEq, ExpectedValue, UnquotedValue, ExpectedQuote, Duplicated, KeyTableFull, BadState}
+use Rattle.tag_step.specs.Answer.{Answer}
+use Rattle.tag_step.specs.declared.Attr.TheVariants.{DoubleQ, SingleQ, Unquoted, Empty}
+use Rattle.tag_step.specs.declared.AttrError.TheVariants.{ExpectedEq, ExpectedValue, UnquotedValue, ExpectedQuote, Duplicated, KeyTableFull, BadState}
 use Rattle.tag_step.specs.declared.IterState.{IterState}
 use Rattle.tag_step.specs.Read.{recover_of, key_at}
 use Rattle.tag_step.specs.Next.{next_of}
@@ -40,21 +40,21 @@ pub data Broken (s : List ℕ) (st : IterState) : Type 0 where
 unfoldable pub SevenExactly : Type 0
 SevenExactly =
     (s : List ℕ) (st : IterState) → FullTables st →
-    ((next_of s st).answer ≡ BadState → Broken s st) × (Broken s st → (next_of s st).answer ≡ BadState)
+    ((next_of s st).answer ≡ Some (Err BadState) → Broken s st) × (Broken s st → (next_of s st).answer ≡ Some (Err BadState))
 
 -- The key that a step reads.
 
 -- It has an `=`, at eq: from the place, after any skip, reading goes on at `from`, and this key is the one there.
 pub record ValuedKey (s : List ℕ) (st : IterState) (key : Span) (eq : ℕ) : Type 0 where
   pub from : ℕ
-  pub goes : recover_of s st.place ≡ From from
-  pub reads : key_at s from ≡ Valued key eq
+  pub goes : recover_of s st.place ≡ Some from
+  pub reads : key_at s from ≡ Some (Valued key eq)
 
 -- It has none, in HTML mode: what follows it stands at `at`.
 pub record BareKey (s : List ℕ) (st : IterState) (key : Span) (at : ℕ) : Type 0 where
   pub from : ℕ
-  pub goes : recover_of s st.place ≡ From from
-  pub reads : key_at s from ≡ Bare key at
+  pub goes : recover_of s st.place ≡ Some from
+  pub reads : key_at s from ≡ Some (Bare key at)
   pub html : st.html ≡ true
 
 -- "a key is due to be recorded (a bare XML key never is)"
@@ -79,7 +79,7 @@ pub record NoRoom (s : List ℕ) (st : IterState) (this : ℕ) : Type 0 where
 unfoldable pub SixExactly : Type 0
 SixExactly =
     (s : List ℕ) (st : IterState) (this : ℕ) → FullTables st →
-    ((next_of s st).answer ≡ KeyTableFull this → NoRoom s st this) × (NoRoom s st this → (next_of s st).answer ≡ KeyTableFull this)
+    ((next_of s st).answer ≡ Some (Err (KeyTableFull this)) → NoRoom s st this) × (NoRoom s st this → (next_of s st).answer ≡ Some (Err (KeyTableFull this)))
 
 -- What is left.
 
@@ -131,10 +131,10 @@ at_or_done s pos = pick (ltb pos (length s)) (Next pos) Done
 -- reading does not go on from it ("done, a place past the end, a skip with no whitespace after it").
 pub data NothingLeft (s : List ℕ) (place : Place) : Type 0 where
   only_space :
-      (o : ℕ) → recover_of s place ≡ From o → o ≤ length s
+      (o : ℕ) → recover_of s place ≡ Some o → o ≤ length s
       → ((k : ℕ) → o ≤ k → k < length s → is_space (get_or s k 0) ≡ true)
       → NothingLeft s place
-  nowhere : recover_of s place ≡ Ended → NothingLeft s place
+  nowhere : recover_of s place ≡ None → NothingLeft s place
 
 -- The end leaves done in the first case, else all "as it was".
 unfoldable pub end_left : (s : List ℕ) (st : IterState) → NothingLeft s st.place → IterState
@@ -165,18 +165,18 @@ pub data RepeatLeaves (s : List ℕ) (st left : IterState) (this : ℕ) : Type 0
 -- The column "Leaves", a row for each answer; the attributes, of which that table does not speak, as "Reading a tag" has
 -- it: reading goes on directly after the closing quote, where an unquoted value ends, and after a bare key as 1 leaves it.
 unfoldable pub RowLeft : List ℕ → IterState → Answer → IterState → Type 0
-RowLeft s st End left = EndLeaves s st left
-RowLeft s st (DoubleQ key value) left = Records s st left (Next (value.end + 1)) key
-RowLeft s st (SingleQ key value) left = Records s st left (Next (value.end + 1)) key
-RowLeft s st (Unquoted key value) left = Records s st left (Next value.end) key
-RowLeft s st (Empty key) left = (at : ℕ) × (BareKey s st key at) × (left ≡ moved_with s (at_or_done s at) key st)
-RowLeft s st (ExpectedEq pos) left = left ≡ moved_to (at_or_done s pos) st
-RowLeft s st (ExpectedValue len) left = (len ≡ length s) × RecordsIts s st left Done
-RowLeft s st (UnquotedValue pos) left = RecordsIts s st left (SkipValue pos)
-RowLeft s st (ExpectedQuote len quote) left = (len ≡ length s) × RecordsIts s st left Done
-RowLeft s st (Duplicated this earlier) left = RepeatLeaves s st left this
-RowLeft s st (KeyTableFull this) left = left ≡ moved_to Done st
-RowLeft s st BadState left = left ≡ emptied st
+RowLeft s st None left = EndLeaves s st left
+RowLeft s st (Some (Ok (DoubleQ key value))) left = Records s st left (Next (value.end + 1)) key
+RowLeft s st (Some (Ok (SingleQ key value))) left = Records s st left (Next (value.end + 1)) key
+RowLeft s st (Some (Ok (Unquoted key value))) left = Records s st left (Next value.end) key
+RowLeft s st (Some (Ok (Empty key))) left = (at : ℕ) × (BareKey s st key at) × (left ≡ moved_with s (at_or_done s at) key st)
+RowLeft s st (Some (Err (ExpectedEq pos))) left = left ≡ moved_to (at_or_done s pos) st
+RowLeft s st (Some (Err (ExpectedValue len))) left = (len ≡ length s) × RecordsIts s st left Done
+RowLeft s st (Some (Err (UnquotedValue pos))) left = RecordsIts s st left (SkipValue pos)
+RowLeft s st (Some (Err (ExpectedQuote len quote))) left = (len ≡ length s) × RecordsIts s st left Done
+RowLeft s st (Some (Err (Duplicated this earlier))) left = RepeatLeaves s st left this
+RowLeft s st (Some (Err (KeyTableFull this))) left = left ≡ moved_to Done st
+RowLeft s st (Some (Err BadState)) left = left ≡ emptied st
 
 -- Every step leaves what its answer's row says, every place of the three tables, for every tag and every state.
 unfoldable pub LeavesExact : Type 0
@@ -186,14 +186,14 @@ LeavesExact = (s : List ℕ) (st : IterState) → RowLeft s st (next_of s st).an
 unfoldable pub EndExactly : Type 0
 EndExactly =
     (s : List ℕ) (st : IterState) → FullTables st →
-    ((next_of s st).answer ≡ End → (Broken s st → ⊥) × NothingLeft s st.place)
-    × ((Broken s st → ⊥) → NothingLeft s st.place → (next_of s st).answer ≡ End)
+    ((next_of s st).answer ≡ None → (Broken s st → ⊥) × NothingLeft s st.place)
+    × ((Broken s st → ⊥) → NothingLeft s st.place → (next_of s st).answer ≡ None)
 
 -- Steps one after another.
 
 -- "iteration ends and stays ended": the step after an end is that end again, and leaves what it left.
 unfoldable pub EndStays : Type 0
-EndStays = (s : List ℕ) (st : IterState) → (next_of s st).answer ≡ End → next_of s (next_of s st).state ≡ next_of s st
+EndStays = (s : List ℕ) (st : IterState) → (next_of s st).answer ≡ None → next_of s (next_of s st).state ≡ next_of s st
 
 -- a place past o, in the tag or, where nothing is skipped from it, at its end; or done
 unfoldable pub Beyond : List ℕ → ℕ → Place → Type 0
@@ -205,12 +205,12 @@ Beyond s o (SkipEqValue x) = (o < x) × (x < length s)
 -- reading goes on somewhere, and the place that is left lies beyond
 pub record Forward (s : List ℕ) (place left : Place) : Type 0 where
   pub from : ℕ
-  pub goes : recover_of s place ≡ From from
+  pub goes : recover_of s place ≡ Some from
   pub inside : from ≤ length s
   pub beyond : Beyond s from left
 
 -- Every answer but the end and 7 leaves a place past the one where its reading began.
 unfoldable pub StepForward : Type 0
 StepForward =
-    (s : List ℕ) (st : IterState) → ((next_of s st).answer ≡ End → ⊥) → ((next_of s st).answer ≡ BadState → ⊥) →
+    (s : List ℕ) (st : IterState) → ((next_of s st).answer ≡ None → ⊥) → ((next_of s st).answer ≡ Some (Err BadState) → ⊥) →
     Forward s st.place (next_of s st).state.place

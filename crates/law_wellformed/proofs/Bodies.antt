@@ -9,16 +9,16 @@ use native.Mathlib.Nat.{eq-or-lt_of_le, le_of_suc-le-suc}
 use native.Mathlib.Omega.{arith}
 use lib.ListN.{length, get_or, set, drop, length-append, length-drop, length-replicate}
 use lib.Seq.{drop-append_seam, get_or-set_same, get_or-set_other}
+use Rattle.std.proofs.Common.{Ok}
+use Rattle.std.specs.Prelude.{None}
 use Rattle.scan.specs.First.{first_from}
 use Rattle.scan.specs.Bytes.{is_space, not_space, part}
 use Rattle.scan.proofs.Laws.{past, skip}
-use Rattle.tag_keys.specs.declared.Checked.TheVariants.{Fresh}
 use Rattle.tag_keys.specs.Hash.{hash_of}
 use Rattle.tag_keys.specs.Keys.{capacity, KeysIn, KeyRoom, name_at, count_by}
 use Rattle.tag_keys.proofs.Laws.{in_table, keys_none, earlier_none, checked_off, checked_fresh, written_on, room_stays, keys_held, room_holds}
 use Rattle.tag_step.specs.declared.Place.TheVariants.{Done, Next}
-use Rattle.tag_step.specs.declared.Answer.{Answer}
-use Rattle.tag_step.specs.declared.Answer.TheVariants.{End}
+use Rattle.tag_step.specs.Answer.{Answer}
 use Rattle.tag_step.specs.declared.Found.{Found}
 use Rattle.tag_step.specs.declared.IterState.{IterState}
 use Rattle.tag_step.specs.declared.Span.{Span}
@@ -69,7 +69,7 @@ module _ (s : List ℕ) (html checks : Bool) where
     abbrev key : Span
     key = span (name_start o a) (name_end o a)
 
-    check_on : checks ≡ true → check_of s checks keys key ≡ Fresh (keys.count + 1)
+    check_on : checks ≡ true → check_of s checks keys key ≡ Ok (keys.count + 1)
     unfolding check_of Absent
     check_on on =
         let few = ready.few on in
@@ -77,10 +77,10 @@ module _ (s : List ℕ) (html checks : Bool) where
         (earlier_none s keys.starts keys.ends keys.count (name_start o a) (name_end o a) (λ k lt e. (ready.fresh on k lt).0 (e ∙ name_is s o a rest here fine)))
         (omega arith)
 
-    check_new : (n : ℕ) × (check_of s checks keys key ≡ Fresh n)
+    check_new : (n : ℕ) × (check_of s checks keys key ≡ Ok n)
     unfolding check_of
     check_new = by checks refl where
-      by : (t : Bool) → checks ≡ t → (n : ℕ) × (check_of s checks keys key ≡ Fresh n)
+      by : (t : Bool) → checks ≡ t → (n : ℕ) × (check_of s checks keys key ≡ Ok n)
       by true on = (keys.count + 1, check_on on)
       by false off = (keys.count, checked_off s checks keys.starts keys.ends keys.count (name_start o a) (name_end o a) off)
 
@@ -92,7 +92,7 @@ module _ (s : List ℕ) (html checks : Bool) where
     unfolding read_at read_key valued_of valued_to valued_by attribute_of
     reads_one =
         let n = check_new.0 in
-        let c : check_of s checks keys key ≡ Fresh n = check_new.1 in
+        let c : check_of s checks keys key ≡ Ok n = check_new.1 in
         let v : valued_by s html key (name_end o a + length a.before_eq) (check_of s checks keys key) ≡ found (attribute_of o a) (Next (next o a)) = rw c (value_read s o a rest here fine html key) in
         rw (key_read s o a rest here fine) (ap (λ (x : Found). reading x kept) v)
 
@@ -137,7 +137,7 @@ module _ (s : List ℕ) (html checks : Bool) where
           below : checks ≡ true → (k : ℕ) → k < kept.count → k ≤ keys.count
           below on k lt = omega (arith, count_on on)
 
-  reads_none : (o : ℕ) (keys : Keys) (w : List ℕ) → drop o s ≡ w → each is_space w ≡ true → o ≤ length s → read_at s html checks keys o ≡ reading (found End Done) keys
+  reads_none : (o : ℕ) (keys : Keys) (w : List ℕ) → drop o s ≡ w → each is_space w ≡ true → o ≤ length s → read_at s html checks keys o ≡ reading (found None Done) keys
   unfolding read_at read_key
   reads_none o keys w here h le =
       let e = only_space_lem s o w here h le in

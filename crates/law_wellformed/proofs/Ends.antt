@@ -6,11 +6,11 @@ use mathlib.Core.Bool.{Bool, true, false}
 use mathlib.Core.List.{List, [], ◌∷◌}
 use native.Mathlib.Omega.{arith}
 use lib.ListN.{length}
+use Rattle.std.proofs.Common.{Option, Some, None}
+use Rattle.std.specs.Prelude.{Err}
 use Rattle.tag_step.specs.declared.Place.TheVariants.{Done}
-use Rattle.tag_step.specs.declared.Start.{Start}
-use Rattle.tag_step.specs.declared.Start.TheVariants.{From, Ended}
-use Rattle.tag_step.specs.declared.Answer.{Answer}
-use Rattle.tag_step.specs.declared.Answer.TheVariants.{BadState}
+use Rattle.tag_step.specs.Answer.{Answer}
+use Rattle.tag_step.specs.declared.AttrError.TheVariants.{BadState}
 use Rattle.tag_step.specs.declared.IterState.{IterState}
 use Rattle.tag_step.specs.declared.Step.{Step}
 use Rattle.tag_step.specs.Read.{recover_of}
@@ -21,11 +21,11 @@ use Rattle.tag_step.proofs.Good.{Sized, next_stays_good, next_sized}
 use Rattle.tag_step.proofs.Run.{cons_most, left, left_all, from_more, run_lent_lem, lent_resumes, answers_resume}
 
 -- no more answers than the budget
-from_most : (n : ℕ) (s : List ℕ) (html checks : Bool) (keys : Keys) (x : Start) → length (run_from n s html checks keys x) ≤ n
+from_most : (n : ℕ) (s : List ℕ) (html checks : Bool) (keys : Keys) (x : Option ℕ) → length (run_from n s html checks keys x) ≤ n
 unfolding run_from
 from_most zero s html checks keys x = omega arith
-from_most (suc n) s html checks keys Ended = omega arith
-from_most (suc n) s html checks keys (From o) =
+from_most (suc n) s html checks keys None = omega arith
+from_most (suc n) s html checks keys (Some o) =
     let r = read_at s html checks keys o in
     cons_most n (is_end r.answer) r.answer _ (from_most n s html checks r.keys (recover_of s r.place))
 
@@ -51,11 +51,11 @@ module _ (s : List ℕ) (st : IterState) (sized : Sized st) (bad : state_good s 
   unfolding after leaves bad_reading
   after_done = ap (λ (x : Step). x.state.place) (sym (next_bad s st bad))
 
-  after_ended : recover_of s after.place ≡ Ended
+  after_ended : recover_of s after.place ≡ None
   unfolding recover_of
   after_ended = rw after_done
 
-  none_from : (n : ℕ) (html checks : Bool) (keys : Keys) (x : Start) → x ≡ Ended → run_from n s html checks keys x ≡ []
+  none_from : (n : ℕ) (html checks : Bool) (keys : Keys) (x : Option ℕ) → x ≡ None → run_from n s html checks keys x ≡ []
   unfolding run_from
   none_from zero html checks keys x e = refl
   none_from (suc n) html checks keys x e = rw e
@@ -67,11 +67,11 @@ module _ (s : List ℕ) (st : IterState) (sized : Sized st) (bad : state_good s 
       ∙ lent_resumes n s after.html after.check_duplicates (keys_of after) after.place
       ∙ none_from n after.html after.check_duplicates (keys_of after) (recover_of s after.place) after_ended
 
-  only : (rest : List Answer) → rest ≡ [] → cons_unless (is_end (leaves st bad_reading).answer) (leaves st bad_reading).answer rest ≡ BadState ∷ []
+  only : (rest : List Answer) → rest ≡ [] → cons_unless (is_end (leaves st bad_reading).answer) (leaves st bad_reading).answer rest ≡ Some (Err BadState) ∷ []
   unfolding cons_unless is_end leaves bad_reading
   only rest e = rw e
 
-  pub bad_run_ends : answers_of s st ≡ BadState ∷ []
+  pub bad_run_ends : answers_of s st ≡ Some (Err BadState) ∷ []
   unfolding answers_of run_of after
   bad_run_ends =
       ap (λ (x : Step). cons_unless (is_end x.answer) x.answer (run_of (length s) s (next_of s st).state)) (sym (next_bad s st bad))

@@ -7,13 +7,15 @@ use mathlib.Core.Bool.{Bool, true, false}
 use mathlib.Core.List.{List, [], ◌∷◌, ◌++◌, map}
 use native.Mathlib.Omega.{arith}
 use lib.ListN.{length, replicate, length-replicate}
+use Rattle.std.proofs.Common.{Some}
+use Rattle.std.specs.Prelude.{Ok, Err}
 use Rattle.scan.specs.First.{first_of, first_to, first_from}
 use Rattle.scan.specs.Bytes.{is_space, not_space, ends_key, is_byte, part, same_bytes, bytes_from, bytes}
 use Rattle.tag_keys.specs.Hash.{times_prime, hash_from, hash_of}
 use Rattle.tag_keys.specs.Keys.{capacity, key_good, hash_is, key_bad, count_good, table_good, name_at, same_key, oldest_of, earlier_of, checked_by, checked_of, written_by, count_by}
 use Rattle.tag_step.specs.declared.Place.TheVariants.{SkipValue}
-use Rattle.tag_step.specs.declared.Start.TheVariants.{From}
-use Rattle.tag_step.specs.declared.Answer.TheVariants.{DoubleQ, SingleQ, Duplicated, BadState}
+use Rattle.tag_step.specs.declared.Attr.TheVariants.{DoubleQ, SingleQ}
+use Rattle.tag_step.specs.declared.AttrError.TheVariants.{Duplicated, BadState}
 use Rattle.tag_step.specs.declared.IterState.{IterState}
 use Rattle.tag_step.specs.Read.{span, is_at, is_quote, skip_to, skip_of, recover_of, key_eq, key_to, key_from, key_at, quoted, closed_of, quoted_to, quoted_of, unquoted_to, other_of, value_by, value_from, value_at}
 use Rattle.tag_step.specs.Next.{check_of, kept_by, place_at, bare_by, bare_to, bare_of, valued_by, valued_to, valued_of, read_key, read_at, step_from, step_of, place_good, keys_of, lent_state, state_good, no_keys, bad_reading, leaves, next_of, opened}
@@ -99,7 +101,7 @@ unfolding Distinct Absent bytes bytes_from
 shown_distinct = ((λ e. apart 97 98 [] [] (λ n. omega arith) e, tt), (tt, tt))
 
 -- Read after a tag's name, `el`, in XML mode with checks on.
-pub well_formed_example : answers_of (bytes "el a=\"1\" b = 'x \"y\"' ") (opened 2 false true) ≡ DoubleQ (span 3 4) (span 6 7) ∷ SingleQ (span 9 10) (span 14 19) ∷ []
+pub well_formed_example : answers_of (bytes "el a=\"1\" b = 'x \"y\"' ") (opened 2 false true) ≡ Some (Ok (DoubleQ (span 3 4) (span 6 7))) ∷ Some (Ok (SingleQ (span 9 10) (span 14 19))) ∷ []
 unfolding bytes bytes_from body_text attributes_then attribute_then quote_byte name_start name_end value_start_at value_end_at next in_quotes attribute_of attributes_of
 well_formed_example = (well_formed_reads (bytes "el") shown shown_is (omega arith) shown_distinct false true).0
 
@@ -136,7 +138,7 @@ close_distinct : Distinct close.attributes
 unfolding Distinct Absent bytes bytes_from
 close_distinct = ((λ e. apart 97 98 [] [] (λ n. omega arith) e, tt), (tt, tt))
 
-pub quoted_example : answers_of (bytes "a=\"1\"b='<&'") (opened 0 false true) ≡ DoubleQ (span 0 1) (span 3 4) ∷ SingleQ (span 5 6) (span 8 10) ∷ []
+pub quoted_example : answers_of (bytes "a=\"1\"b='<&'") (opened 0 false true) ≡ Some (Ok (DoubleQ (span 0 1) (span 3 4))) ∷ Some (Ok (SingleQ (span 5 6) (span 8 10))) ∷ []
 unfolding bytes bytes_from body_text attributes_then attribute_then quote_byte name_start name_end value_start_at value_end_at next in_quotes attribute_of attributes_of
 quoted_example = quoted_reads [] close close_is (omega arith) close_distinct false true
 
@@ -161,7 +163,7 @@ twice_is =
       after = refl;
     }
 
-pub unchecked_example : answers_of (bytes " a='1' a=\"\"") (opened 0 true false) ≡ SingleQ (span 1 2) (span 4 5) ∷ DoubleQ (span 7 8) (span 10 10) ∷ []
+pub unchecked_example : answers_of (bytes " a='1' a=\"\"") (opened 0 true false) ≡ Some (Ok (SingleQ (span 1 2) (span 4 5))) ∷ Some (Ok (DoubleQ (span 7 8) (span 10 10))) ∷ []
 unfolding bytes bytes_from body_text attributes_then attribute_then quote_byte name_start name_end value_start_at value_end_at next in_quotes attribute_of attributes_of
 unchecked_example = unchecked_reads [] twice twice_is true
 
@@ -171,7 +173,7 @@ again = (next_of (bytes "a='1' a=\"2 3\" b='4'") (opened 0 false true)).state
 
 pub resume_example :
     let s = bytes "a='1' a=\"2 3\" b='4'" in
-    ((next_of s again).answer ≡ Duplicated 6 0) × (recover_of s (next_of s again).state.place ≡ From 10)
+    ((next_of s again).answer ≡ Some (Err (Duplicated 6 0))) × (recover_of s (next_of s again).state.place ≡ Some 10)
 unfolding first_of first_to first_from is_space not_space ends_key is_byte part same_bytes bytes_from bytes times_prime hash_from hash_of key_good hash_is key_bad count_good table_good name_at same_key oldest_of earlier_of checked_by checked_of written_by count_by is_at is_quote skip_to skip_of recover_of key_eq key_to key_from key_at quoted closed_of quoted_to quoted_of unquoted_to other_of value_by value_from value_at check_of kept_by place_at bare_by bare_to bare_of valued_by valued_to valued_of read_key read_at step_from step_of place_good keys_of state_good no_keys bad_reading leaves next_of opened from_or_ended from_whitespace after_key after_duplicate resumes_at
 resume_example = (refl, resume_exact (bytes "a='1' a=\"2 3\" b='4'") again)
 
@@ -183,6 +185,6 @@ run_ends_example = run_ends (bytes "a=1 b='2'") (opened 0 false true) (opened_si
 abbrev outside : IterState
 outside = lent_state (SkipValue 1) false true (replicate capacity 0) (replicate capacity 0) (replicate capacity 0) 0
 
-pub bad_run_example : answers_of (bytes "a") outside ≡ BadState ∷ []
+pub bad_run_example : answers_of (bytes "a") outside ≡ Some (Err BadState) ∷ []
 unfolding first_of first_to bytes bytes_from key_good key_bad count_good table_good place_good state_good
 bad_run_example = bad_run_ends (bytes "a") outside (record { starts = length-replicate {A = ℕ} capacity 0; ends = length-replicate {A = ℕ} capacity 0; hashes = length-replicate {A = ℕ} capacity 0 }) refl

@@ -6,6 +6,7 @@ use mathlib.Core.List.{List, [], ◌∷◌, ◌++◌}
 use native.Mathlib.Omega.{arith}
 use lib.ListN.{length, get_or, drop, length-append, get_or-append}
 use lib.Dec.{eqb}
+use Rattle.std.proofs.Common.{Some}
 use Rattle.scan.specs.Bytes.{is_space, not_space, ends_key, is_byte, part}
 use Rattle.scan.proofs.Bytes.{both, eq_content}
 use Rattle.tag_step.specs.declared.Span.{Span}
@@ -119,7 +120,7 @@ module _ (s : List ℕ) (o : ℕ) (a : Attribute) (rest : List ℕ) (here : drop
   r₁_some : 0 < length r₁
   r₁_some = omega (arith, name_some, length-append a.name r₂)
 
-  pub key_read : key_at s o ≡ Valued (span (name_start o a) (name_end o a)) eq
+  pub key_read : key_at s o ≡ Some (Valued (span (name_start o a) (name_end o a)) eq)
   unfolding name_start name_end
   key_read =
       sym (key_valued s o (name_start o a)

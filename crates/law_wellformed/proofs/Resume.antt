@@ -8,19 +8,18 @@ use native.Mathlib.Omega.{arith}
 use lib.ListN.{length, get_or}
 use lib.Dec.{eqb, ltb}
 use borrow.Author.Tests.{ltb-true}
+use Rattle.std.proofs.Common.{Result, Ok, Err, Option, Some, None}
 use Rattle.scan.specs.First.{first_from, pick}
 use Rattle.scan.specs.Bytes.{is_space, not_space, ends_key}
 use Rattle.scan.proofs.Laws.{first, picks}
-use Rattle.tag_keys.specs.declared.Checked.{Checked}
-use Rattle.tag_keys.specs.declared.Checked.TheVariants.{Fresh, Same, Full}
+use Rattle.tag_keys.specs.declared.KeyRefusal.{KeyRefusal}
+use Rattle.tag_keys.specs.declared.KeyRefusal.TheVariants.{Same, Full}
 use Rattle.tag_step.specs.declared.Span.{Span}
 use Rattle.tag_step.specs.declared.Place.{Place}
 use Rattle.tag_step.specs.declared.Place.TheVariants.{Done, Next}
-use Rattle.tag_step.specs.declared.Start.{Start}
-use Rattle.tag_step.specs.declared.Start.TheVariants.{From, Ended}
 use Rattle.tag_step.specs.declared.KeyRead.{KeyRead}
-use Rattle.tag_step.specs.declared.KeyRead.TheVariants.{NoKey, Bare, Valued}
-use Rattle.tag_step.specs.declared.Answer.{Answer}
+use Rattle.tag_step.specs.declared.KeyRead.TheVariants.{Bare, Valued}
+use Rattle.tag_step.specs.Answer.{Answer}
 use Rattle.tag_step.specs.declared.Found.{Found}
 use Rattle.tag_step.specs.declared.IterState.{IterState}
 use Rattle.tag_step.specs.Read.{is_at, skip_to, skip_of, recover_of, key_eq, key_to, key_from, key_at, quoted, closed_of, value_at}
@@ -38,7 +37,7 @@ module _ (s : List ℕ) where
   place_from_lem : (at : ℕ) → recover_of s (place_at s at) ≡ from_or_ended s at
   unfolding place_at from_or_ended recover_of
   place_from_lem at = by (ltb at (length s)) refl where
-    by : (t : Bool) → ltb at (length s) ≡ t → recover_of s (pick t (Next at) Done) ≡ pick t (From at) Ended
+    by : (t : Bool) → ltb at (length s) ≡ t → recover_of s (pick t (Next at) Done) ≡ pick t (Some at) None
     by true e = sym (next_from s at (omega (arith, ltb-true at (length s) e)))
     by false e = refl
 
@@ -67,10 +66,10 @@ record Follows (s : List ℕ) (key : Span) (x : ℕ) (t : Bool) : Type 0 where
   next : x ≡ first_from not_space s key.end
   is_eq : is_at s 61 x ≡ t
 
-unfoldable KeyIs : List ℕ → KeyRead → Type 0
-KeyIs s NoKey = Unit {0}
-KeyIs s (Bare key at) = Follows s key at false
-KeyIs s (Valued key eq) = Follows s key eq true
+unfoldable KeyIs : List ℕ → Option KeyRead → Type 0
+KeyIs s None = Unit {0}
+KeyIs s (Some (Bare key at)) = Follows s key at false
+KeyIs s (Some (Valued key eq)) = Follows s key eq true
 
 key_is : (s : List ℕ) (o : ℕ) → KeyIs s (key_at s o)
 unfolding key_at key_from key_to key_eq KeyIs
@@ -91,17 +90,17 @@ module _ (s : List ℕ) (key : Span) (x : ℕ) (t : Bool) (f : Follows s key x t
   after_duplicate_lem = rw (after_key_lem, f.is_eq)
 
 module _ (s : List ℕ) (html : Bool) (key : Span) (x : ℕ) where
-  bare : Follows s key x false → (c : Checked) → Resumes s (bare_by s key x c).answer (bare_by s key x c).place
+  bare : Follows s key x false → (c : Result ℕ KeyRefusal) → Resumes s (bare_by s key x c).answer (bare_by s key x c).place
   unfolding bare_by resumes_at recover_of
-  bare f (Fresh n) = place_from_lem s x ∙ ap (from_or_ended s) f.next
-  bare f (Same p) = place_from_lem s x ∙ sym (after_duplicate_lem s key x false f)
-  bare f Full = refl
+  bare f (Ok n) = place_from_lem s x ∙ ap (from_or_ended s) f.next
+  bare f (Err (Same p)) = place_from_lem s x ∙ sym (after_duplicate_lem s key x false f)
+  bare f (Err Full) = refl
 
-  valued : Follows s key x true → (c : Checked) → Resumes s (valued_by s html key x c).answer (valued_by s html key x c).place
+  valued : Follows s key x true → (c : Result ℕ KeyRefusal) → Resumes s (valued_by s html key x c).answer (valued_by s html key x c).place
   unfolding valued_by resumes_at recover_of skip_of skip_to from_whitespace from_or_ended
-  valued f (Fresh n) = value s html key x
-  valued f (Same p) = sym (after_duplicate_lem s key x true f)
-  valued f Full = refl
+  valued f (Ok n) = value s html key x
+  valued f (Err (Same p)) = sym (after_duplicate_lem s key x true f)
+  valued f (Err Full) = refl
 
 module _ (s : List ℕ) (html checks : Bool) (keys : Keys) where
   abbrev Goes : Reading → Type 0
@@ -119,9 +118,9 @@ module _ (s : List ℕ) (html checks : Bool) (keys : Keys) where
   step_resumes : (place : Place) → Goes (step_of s html checks keys place)
   unfolding step_of step_from resumes_at
   step_resumes place = by (recover_of s place) refl where
-    by : (x : Start) → recover_of s place ≡ x → Goes (step_from s html checks keys place x)
-    by (From o) e = read_resumes o (starts_in s place o e)
-    by Ended e = e
+    by : (x : Option ℕ) → recover_of s place ≡ x → Goes (step_from s html checks keys place x)
+    by (Some o) e = read_resumes o (starts_in s place o e)
+    by None e = e
 
 -- For every tag and every state, in both modes: what `next` leaves resumes where the answer says.
 pub resume_exact : (s : List ℕ) (st : IterState) → recover_of s (next_of s st).state.place ≡ resumes_at s (next_of s st).answer

@@ -10,7 +10,7 @@ use Rattle.scan.specs.Bytes.{inside}
 use Rattle.scan.proofs.Bytes.{inside_part}
 use Rattle.tag_keys.specs.Keys.{capacity}
 use Rattle.tag_step.specs.declared.Span.{Span}
-use Rattle.tag_step.specs.declared.Answer.{Answer}
+use Rattle.tag_step.specs.Answer.{Answer}
 use Rattle.tag_step.specs.Read.{span}
 use Rattle.tag_step.specs.Next.{opened}
 use Rattle.tag_step.specs.Numbers.{numbers_of}

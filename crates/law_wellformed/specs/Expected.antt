@@ -1,9 +1,9 @@
 -- The answers that a body is due: its attributes in order, D or S by its quotes, the bounds being sums of the lengths of
 -- what stands before them.
-use Rattle.std.specs.Prelude.{ℕ, ◌+◌, Bool, true, not, ◌&&◌, List, [], ◌∷◌, length, get_or, leb}
+use Rattle.std.specs.Prelude.{ℕ, ◌+◌, Bool, true, not, ◌&&◌, List, [], ◌∷◌, length, get_or, leb, Some, Ok}
 use Rattle.tag_step.specs.declared.Span.{Span}
-use Rattle.tag_step.specs.declared.Answer.{Answer}
-use Rattle.tag_step.specs.declared.Answer.TheVariants.{DoubleQ, SingleQ}
+use Rattle.tag_step.specs.Answer.{Answer}
+use Rattle.tag_step.specs.declared.Attr.TheVariants.{DoubleQ, SingleQ}
 use Rattle.tag_step.specs.Read.{span}
 use Rattle.tag_step.specs.Numbers.{numbers_of}
 use Rattle.law_wellformed.specs.Grammar.{Quote, double, single, Attribute}
@@ -13,7 +13,7 @@ use Rattle.law_wellformed.specs.Grammar.{Quote, double, single, Attribute}
 --        name =  "value"
 --     |  |   |    |    |^
 --
--- The marks are `at`, nameStart, nameEnd, valueStart, valueEnd and next.
+-- The marks are `at`, `name_start`, `name_end`, `value_start_at`, `value_end_at` and `next`.
 unfoldable pub name_start : ℕ → Attribute → ℕ
 name_start at a = at + length a.before
 
@@ -32,8 +32,8 @@ unfoldable pub next : ℕ → Attribute → ℕ
 next at a = value_end_at at a + 1
 
 unfoldable pub in_quotes : Quote → Span → Span → Answer
-in_quotes double key value = DoubleQ key value
-in_quotes single key value = SingleQ key value
+in_quotes double key value = Some (Ok (DoubleQ key value))
+in_quotes single key value = Some (Ok (SingleQ key value))
 
 unfoldable pub attribute_of : ℕ → Attribute → Answer
 attribute_of at a = in_quotes a.quote (span (name_start at a) (name_end at a)) (span (value_start_at at a) (value_end_at at a))

@@ -9,10 +9,11 @@ use lib.ListN.{length, take, drop, length-append}
 use lib.Seq.{take_at}
 use lib.Dec.{leb}
 use borrow.Author.Tests.{leb-true, leb-false}
+use Rattle.std.specs.Prelude.{Result, Ok, Err}
 use Rattle.scan.specs.First.{pick}
 use Rattle.scan.specs.Lists.{over}
 use Rattle.scan.proofs.Lists.{over_length}
-use Rattle.tag_step.specs.declared.Answer.{Answer}
+use Rattle.tag_step.specs.Answer.{Answer}
 use Rattle.tag_step.specs.declared.Place.{Place}
 use Rattle.tag_step.specs.declared.IterState.{IterState}
 use Rattle.tag_step.specs.Next.{next_of, leaves, lent_state}
@@ -20,11 +21,10 @@ use Rattle.tag_step.specs.Lent.{whole_next, needs_more, stepped_of}
 use Rattle.tag_step.specs.Run.{is_end, cons_unless, run_of, answers_of}
 use Rattle.tag_step.proofs.Run.{cons_most, run_whole}
 use Rattle.tag_step.proofs.Good.{Sized, next_sized}
-use Rattle.tag_batch.specs.declared.Batch.{Batch}
-use Rattle.tag_batch.specs.declared.Batch.TheVariants.{Read, WrongTables}
-use Rattle.tag_batch.specs.declared.Why.{Why}
+use Rattle.tag_batch.specs.declared.BatchRead.{BatchRead}
+use Rattle.tag_batch.specs.declared.WrongTables.{WrongTables}
 use Rattle.tag_batch.specs.declared.Why.TheVariants.{AtEnd, LendMore}
-use Rattle.tag_batch.specs.Batch.{five_of, fives_of, left_of, Ran, ran, ahead, ran_of, tables_lent, answers_room, Batched, batched, batch_shown, read_of, batch_of}
+use Rattle.tag_batch.specs.Batch.{five_of, fives_of, left_of, Ran, ran, ahead, ran_of, tables_lent, answers_room, read, Batched, batched, batch_shown, read_of, batch_of}
 use Rattle.tag_batch.proofs.Turns.{five_length}
 use Rattle.tag_batch.proofs.Full.{full_batch}
 use Rattle.lines.specs.Page.{answers_count}
@@ -149,7 +149,7 @@ module _ (s : List ℕ) (st : IterState) (out : List ℕ) where
   pub batch_sizes : (length (batch_of s st out).out ≡ length out) × (5 * answers_count (batch_of s st out).batch ≤ length out)
   unfolding batch_of read_of batch_shown
   batch_sizes = by (tables_lent st) where
-    by : (t : Bool) → (length (pick t (read_of s st out) (batched WrongTables st.starts st.ends st.hashes out)).out ≡ length out) × (5 * answers_count (pick t (read_of s st out) (batched WrongTables st.starts st.ends st.hashes out)).batch ≤ length out)
+    by : (t : Bool) → (length (pick t (read_of s st out) (batched (Err (record {})) st.starts st.ends st.hashes out)).out ≡ length out) × (5 * answers_count (pick t (read_of s st out) (batched (Err (record {})) st.starts st.ends st.hashes out)).batch ≤ length out)
     by true = (over_length out 0 (fives_of (ran_of (answers_room out) s st).answers) (omega (arith, read_fits, fives_length (ran_of (answers_room out) s st).answers)), read_fits)
     by false = (refl, omega arith)
 
@@ -171,12 +171,12 @@ module _ (s : List ℕ) (place : Place) (html checks : Bool) (starts ends hashes
   abbrev stood : IterState
   stood = lent_state place html checks starts ends hashes count
 
-  module _ (z : Sized stood) {b : Batch} {starts' ends' hashes' written : List ℕ} (e : batched b starts' ends' hashes' written ≡ batch_of s stood out) where
+  module _ (z : Sized stood) {b : Result BatchRead WrongTables} {starts' ends' hashes' written : List ℕ} (e : batched b starts' ends' hashes' written ≡ batch_of s stood out) where
     -- all that it has, for full tables
-    is : batched b starts' ends' hashes' written ≡ batched (Read (length (run_of (answers_room out) s stood)) (left_of (answers_room out) s stood).place (left_of (answers_room out) s stood).count (ran_of (answers_room out) s stood).why) (left_of (answers_room out) s stood).starts (left_of (answers_room out) s stood).ends (left_of (answers_room out) s stood).hashes (over out 0 (fives_of (run_of (answers_room out) s stood)))
+    is : batched b starts' ends' hashes' written ≡ batched (read (length (run_of (answers_room out) s stood)) (left_of (answers_room out) s stood).place (left_of (answers_room out) s stood).count (ran_of (answers_room out) s stood).why) (left_of (answers_room out) s stood).starts (left_of (answers_room out) s stood).ends (left_of (answers_room out) s stood).hashes (over out 0 (fives_of (run_of (answers_room out) s stood)))
     is = e ∙ full_batch s stood out z
 
-    pub never_wrong : b ≡ WrongTables → ⊥
+    pub never_wrong : b ≡ Err (record {}) → ⊥
     never_wrong w =
         let f = ap (λ (x : Batched). x.batch) is in
         let x : ◌≡◌ {A = ℕ} 0 1 = cc in
@@ -185,21 +185,28 @@ module _ (s : List ℕ) (place : Place) (html checks : Bool) (starts ends hashes
     pub read_text : written ≡ over out 0 (fives_of (run_of (answers_room out) s stood))
     read_text = ap (λ (x : Batched). x.out) is
 
-    module _ {n : ℕ} {next : Place} {keys : ℕ} {why : Why} (r : b ≡ Read n next keys why) where
-      pub read_count : n ≡ length (run_of (answers_room out) s stood)
-      read_count =
+    module _ {x : BatchRead} (r : b ≡ Ok x) where
+      same : x ≡ record {
+        answers = length (run_of (answers_room out) s stood);
+        place = (left_of (answers_room out) s stood).place;
+        count = (left_of (answers_room out) s stood).count;
+        why = (ran_of (answers_room out) s stood).why;
+      }
+      same =
           let f = ap (λ (x : Batched). x.batch) is in
           cc
 
-      pub read_left : lent_state next html checks starts' ends' hashes' keys ≡ left_of (answers_room out) s stood
-      read_left =
-          let f = ap (λ (x : Batched). x.batch) is in
-          let m = modes (answers_room out) s stood in
-          state_is (left_of (answers_room out) s stood) (cc) (sym m.0) (sym m.1) (ap (λ (x : Batched). x.starts) is) (ap (λ (x : Batched). x.ends) is) (ap (λ (x : Batched). x.hashes) is) (cc)
+      pub read_count : x.answers ≡ length (run_of (answers_room out) s stood)
+      read_count = ap (λ (y : BatchRead). y.answers) same
 
-      pub read_front : take (5 * n) written ≡ fives_of (run_of (answers_room out) s stood)
+      pub read_left : lent_state x.place html checks starts' ends' hashes' x.count ≡ left_of (answers_room out) s stood
+      read_left =
+          let m = modes (answers_room out) s stood in
+          state_is (left_of (answers_room out) s stood) (ap (λ (y : BatchRead). y.place) same) (sym m.0) (sym m.1) (ap (λ (x : Batched). x.starts) is) (ap (λ (x : Batched). x.ends) is) (ap (λ (x : Batched). x.hashes) is) (ap (λ (y : BatchRead). y.count) same)
+
+      pub read_front : take (5 * x.answers) written ≡ fives_of (run_of (answers_room out) s stood)
       unfolding over
       read_front =
           let l : List Answer = run_of (answers_room out) s stood in
-          let a : length (fives_of l) ≡ 5 * n = fives_length l ∙ ap (λ (k : ℕ). 5 * k) (sym read_count) in
-          ap (take (5 * n)) read_text ∙ take_at (fives_of l) (drop (0 + length (fives_of l)) out) (5 * n) a
+          let a : length (fives_of l) ≡ 5 * x.answers = fives_length l ∙ ap (λ (k : ℕ). 5 * k) (sym read_count) in
+          ap (take (5 * x.answers)) read_text ∙ take_at (fives_of l) (drop (0 + length (fives_of l)) out) (5 * x.answers) a

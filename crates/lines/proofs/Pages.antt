@@ -6,8 +6,10 @@ use mathlib.Core.List.{List, [], ◌∷◌}
 use native.Mathlib.Omega.{arith}
 use lib.ListN.{length, take}
 use lib.Seq.{take_at, drop_at}
-use Rattle.tag_step.specs.declared.Answer.{Answer}
-use Rattle.tag_step.specs.declared.Answer.TheVariants.{End, DoubleQ, SingleQ, Unquoted, Empty, ExpectedEq, ExpectedValue, UnquotedValue, ExpectedQuote, Duplicated, KeyTableFull, BadState}
+use Rattle.std.specs.Prelude.{None, Some, Ok, Err}
+use Rattle.tag_step.specs.Answer.{Answer}
+use Rattle.tag_step.specs.declared.Attr.TheVariants.{DoubleQ, SingleQ, Unquoted, Empty}
+use Rattle.tag_step.specs.declared.AttrError.TheVariants.{ExpectedEq, ExpectedValue, UnquotedValue, ExpectedQuote, Duplicated, KeyTableFull, BadState}
 use Rattle.tag_step.specs.declared.IterState.{IterState}
 use Rattle.tag_step.specs.Numbers.{numbers_of}
 use Rattle.tag_step.specs.Run.{run_of}
@@ -16,7 +18,9 @@ use Rattle.tag_step.specs.declared.Place.{Place}
 use Rattle.tag_step.specs.Next.{lent_state}
 use Rattle.scan.specs.Lists.{over}
 use Rattle.tag_batch.specs.Batch.{five_of, fives_of, answers_room, Batched, batched, batch_of}
-use Rattle.tag_batch.specs.declared.Batch.{Batch}
+use Rattle.std.specs.Prelude.{Result}
+use Rattle.tag_batch.specs.declared.BatchRead.{BatchRead}
+use Rattle.tag_batch.specs.declared.WrongTables.{WrongTables}
 use Rattle.tag_batch.proofs.Full.{full_batch}
 use Rattle.tag_batch.proofs.Turns.{five_length}
 use Rattle.lines.specs.Lines.{lines_of, values_of, own_of, five_lines, lines_in}
@@ -28,18 +32,18 @@ use Rattle.lines.proofs.Batches.{fives_length, run_most, read_front}
 -- the zeros behind an answer's numbers are left out
 pub own_numbers : (a : Answer) → own_of (five_of a) ≡ numbers_of a
 unfolding own_of values_of five_of numbers_of
-own_numbers End = refl
-own_numbers (DoubleQ k v) = refl
-own_numbers (SingleQ k v) = refl
-own_numbers (Unquoted k v) = refl
-own_numbers (Empty k) = refl
-own_numbers (ExpectedEq p) = refl
-own_numbers (ExpectedValue l) = refl
-own_numbers (UnquotedValue p) = refl
-own_numbers (ExpectedQuote l q) = refl
-own_numbers (Duplicated this earlier) = refl
-own_numbers (KeyTableFull this) = refl
-own_numbers BadState = refl
+own_numbers None = refl
+own_numbers (Some (Ok (DoubleQ k v))) = refl
+own_numbers (Some (Ok (SingleQ k v))) = refl
+own_numbers (Some (Ok (Unquoted k v))) = refl
+own_numbers (Some (Ok (Empty k))) = refl
+own_numbers (Some (Err (ExpectedEq p))) = refl
+own_numbers (Some (Err (ExpectedValue l))) = refl
+own_numbers (Some (Err (UnquotedValue p))) = refl
+own_numbers (Some (Err (ExpectedQuote l q))) = refl
+own_numbers (Some (Err (Duplicated this earlier))) = refl
+own_numbers (Some (Err (KeyTableFull this))) = refl
+own_numbers (Some (Err BadState)) = refl
 
 pub fives_text : (l : List Answer) → five_lines (length l) (fives_of l) ≡ lines_of l
 unfolding five_lines fives_of lines_of
@@ -76,6 +80,6 @@ module _ (s : List ℕ) (st : IterState) (numbers text : List ℕ) {p : Paged} {
   page_text = ap (λ (x : PageLeft). x.text) e
 
 -- what the code makes
-pub page_is : (s : List ℕ) (st : IterState) (numbers text : List ℕ) (left : Batch) (starts' ends' hashes' numbers' text' : List ℕ) (k len : ℕ) → batched left starts' ends' hashes' numbers' ≡ batch_of s st numbers → k ≡ answers_count left → len ≡ length (lines_in (take (5 * k) numbers') text) → text' ≡ over text 0 (lines_in (take (5 * k) numbers') text) → page_left (record { left = left; length = len }) starts' ends' hashes' numbers' text' ≡ page_of s st numbers text
+pub page_is : (s : List ℕ) (st : IterState) (numbers text : List ℕ) (left : Result BatchRead WrongTables) (starts' ends' hashes' numbers' text' : List ℕ) (k len : ℕ) → batched left starts' ends' hashes' numbers' ≡ batch_of s st numbers → k ≡ answers_count left → len ≡ length (lines_in (take (5 * k) numbers') text) → text' ≡ over text 0 (lines_in (take (5 * k) numbers') text) → page_left (record { left = left; length = len }) starts' ends' hashes' numbers' text' ≡ page_of s st numbers text
 unfolding page_of page_by lines_by
 page_is s st numbers text left starts' ends' hashes' numbers' text' k len e ek el et = rw (el, et, ek) (ap (λ (x : Batched). page_by x text) e)

@@ -7,7 +7,7 @@ use native.Mathlib.Nat.{pow-le-pow_right}
 use native.Mathlib.Numerals.{add-one}
 use native.Mathlib.Omega.{arith}
 use lib.ListN.{length, take, drop, get_or, set, length-append, length-set, length-take, length-drop}
-use lib.Seq.{drop-cons, drop-drop, drop-length}
+use lib.Seq.{drop-cons, drop-length, take_at, drop_at}
 use lib.Dec.{eqb, ltb, leb}
 use borrow.Author.Tests.{lt-ltb, le-ltb, leb-true, leb-false}
 use Rattle.scan.specs.Lists.{over}
@@ -155,22 +155,17 @@ line_put five out at {letter} {from} {values} {end} {text} h room el ef ev ee et
     let z = part_last (set text end 10) (end + 1) (part_byte text end 10 [] inside q') in
     record { inside = inside; size = q'.size; many = rw e z.0; line = rw e z.1 }
 
--- the five numbers of answer k, and its line
-pub five_long : (ns : List ℕ) (k : ℕ) → k < length ns / 5 → length (take (5 * k + 5 - 5 * k) (drop (5 * k) ns)) ≡ 5
-five_long ns k h = omega (arith, length-take (5 * k + 5 - 5 * k) (drop (5 * k) ns), length-drop (5 * k) ns)
-
-pub lines_next : (ns : List ℕ) (n k : ℕ) → k < n → five_lines (n - k) (drop (5 * k) ns) ≡ line_of (own_of (take (5 * k + 5 - 5 * k) (drop (5 * k) ns))) ++ five_lines (n - (k + 1)) (drop (5 * (k + 1)) ns)
+-- the first five numbers, and their line
+pub lines_next : (ns five rest : List ℕ) → ns ≡ five ++ rest → length five ≡ 5 → (length ns / 5 ≡ length rest / 5 + 1) × (five_lines (length ns / 5) ns ≡ line_of (own_of five) ++ five_lines (length rest / 5) rest)
 unfolding five_lines
-lines_next ns n k h =
-    let e : n - k ≡ suc (n - (k + 1)) = omega arith in
-    let five : 5 * k + 5 - 5 * k ≡ 5 = omega arith in
-    let m : 5 * k + 5 ≡ 5 * (k + 1) = omega arith in
-    rw (e, five, drop-drop 5 (5 * k) ns, m)
+lines_next ns five rest e h =
+    let n : length ns / 5 ≡ suc (length rest / 5) = omega (arith, ap length e, length-append five rest) in
+    (omega arith, rw (n, e, take_at five rest 5 h, drop_at five rest 5 h))
 
-pub lines_none : (ns : List ℕ) (n k : ℕ) → n ≤ k → five_lines (n - k) (drop (5 * k) ns) ≡ []
+pub lines_none : (ns : List ℕ) → length ns < 5 → five_lines (length ns / 5) ns ≡ []
 unfolding five_lines
-lines_none ns n k h =
-    let e : n - k ≡ 0 = omega arith in
+lines_none ns h =
+    let e : length ns / 5 ≡ 0 = omega arith in
     rw e
 
 -- room for every line, and not

@@ -4,7 +4,7 @@
 use Rattle.std.specs.Prelude.{ℕ, zero, suc, ◌/◌, ◌^◌, List, [], ◌∷◌, ◌++◌, length, take, drop, get_or, eqb, ltb}
 use Rattle.io.specs.Digits.{last_digits}
 use Rattle.scan.specs.First.{pick, first_to}
-use Rattle.tag_step.specs.declared.Answer.{Answer}
+use Rattle.tag_step.specs.Answer.{Answer}
 use Rattle.tag_step.specs.Numbers.{numbers_of}
 
 -- how many decimal digits a number has: the fewest that hold it, and at least one; none of 64 bits has more than 20

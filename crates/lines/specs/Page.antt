@@ -1,17 +1,17 @@
 -- A page: the lines of the next answers of a run, as many as a lent output of numbers holds.
-use Rattle.std.specs.Prelude.{ℕ, ◌*◌, List, length, take}
+use Rattle.std.specs.Prelude.{ℕ, ◌*◌, List, length, take, Result, Ok, Err}
 use Rattle.scan.specs.Lists.{over}
 use Rattle.tag_step.specs.declared.IterState.{IterState}
-use Rattle.tag_batch.specs.declared.Batch.{Batch}
-use Rattle.tag_batch.specs.declared.Batch.TheVariants.{Read, WrongTables}
+use Rattle.tag_batch.specs.declared.BatchRead.{BatchRead}
+use Rattle.tag_batch.specs.declared.WrongTables.{WrongTables}
 use Rattle.tag_batch.specs.Batch.{Batched, batch_of}
 use Rattle.lines.specs.declared.Paged.{Paged}
 use Rattle.lines.specs.Lines.{lines_in}
 
 -- how many answers a batch wrote
-abbrev pub answers_count : Batch → ℕ
-answers_count (Read n place count why) = n
-answers_count WrongTables = 0
+abbrev pub answers_count : Result BatchRead WrongTables → ℕ
+answers_count (Ok x) = x.answers
+answers_count (Err e) = 0
 
 -- what a page leaves: a batch, and the text with its length
 pub record PageLeft : Type 0 where

@@ -13,33 +13,21 @@ ghost use Rattle.tag_step.specs.Next.{stands_at};
 ghost use Rattle.lines.specs.Lines.{decimal_of, spaced, letter_of, shown_from, values_of, own_of, line_of, lines_in};
 ghost use Rattle.lines.specs.Page.{answers_count, page_left, page_of};
 
-use tag_batch::Batch;
+use tag_batch::{BatchRead, WrongTables};
 use tag_step::Standing;
 
 // No line is longer: a letter, five numbers of at most 20 digits with a blank before each, a line feed.
 pub const LONGEST: usize = 107;
 
-// Copies `text` into `out` from `at` on, and answers the place behind it.
-fn put(text: &[u8], out: &mut [u8], at: usize) -> usize
-    requires { at + length text.now ≤ length out.old }
-    ensures { (result ≡ at + length text.now) × (out.new ≡ over out.old at text.now) }
-{
-    let mut i = 0;
-    while i < text.len() {
-        out[at + i] = text[i];
-        i += 1;
-    }
-    at + i
-}
-
-// A number's digits.
+// A number's digits, and the place behind them.
 fn put_number(n: usize, out: &mut [u8], at: usize) -> usize
     requires { at + 20 ≤ length out.old }
     ensures { (result ≡ at + length (decimal_of n)) × (out.new ≡ over out.old at (decimal_of n)) }
 {
     let mut digits = [0u8; 20];
     let k = io::decimal(n as u64, &mut digits);
-    put(&digits[..k], out, at)
+    scan::put(out, at, &digits[..k]);
+    at + k
 }
 
 // Numbers with a blank before each.
@@ -48,66 +36,44 @@ fn put_numbers(numbers: &[usize], out: &mut [u8], at: usize) -> usize
     ensures { (result ≡ at + length (spaced numbers.now)) × (out.new ≡ over out.old at (spaced numbers.now)) }
 {
     let mut end = at;
-    let mut i = 0;
-    while i < numbers.len() {
+    for n in numbers {
         out[end] = b' ';
-        end = put_number(numbers[i], out, end + 1);
-        i += 1;
+        end = put_number(*n, out, end + 1);
     }
     end
 }
 
+#[tactic(auto, unfolding(crate::specs::Lines::letter_of))]
 fn letter_of(code: usize) -> u8
     ensures { result ≡ letter_of code }
 {
-    if code == 101 {
-        return b'D';
+    match code {
+        101 => b'D',
+        102 => b'S',
+        103 => b'U',
+        104 => b'B',
+        _ => b'E',
     }
-    if code == 102 {
-        return b'S';
-    }
-    if code == 103 {
-        return b'U';
-    }
-    if code == 104 {
-        return b'B';
-    }
-    b'E'
 }
 
 // An attribute's code is not shown, a refusal's is.
 fn shown_from(code: usize) -> usize
     ensures { result ≡ shown_from code }
 {
-    if code > 100 {
-        return 1;
-    }
-    0
+    usize::from(code > 100)
 }
 
 // How many values stand behind a code.
+#[tactic(auto, unfolding(crate::specs::Lines::values_of))]
 fn values_of(code: usize) -> usize
     ensures { result ≡ values_of code }
 {
-    if code == 0 {
-        return 0;
+    match code {
+        0 | 7 => 0,
+        4 | 5 | 104 => 2,
+        1..=6 => 1,
+        _ => 4,
     }
-    if code == 7 {
-        return 0;
-    }
-    if code == 4 {
-        return 2;
-    }
-    if code == 5 {
-        return 2;
-    }
-    if code == 104 {
-        return 2;
-    }
-    if code < 7 {
-        return 1;
-    }
-    4
 }
 
 // The line of an answer's five numbers.
@@ -134,30 +100,26 @@ pub fn put_lines(numbers: &[usize], out: &mut [u8]) -> usize
         return 0;
     }
     let mut end = 0;
-    let mut k = 0;
-    while k < n {
-        let from = 5 * k;
-        let to = from + 5;
-        end = put_line(&numbers[from..to], out, end);
-        k += 1;
+    for five in numbers.chunks_exact(5) {
+        end = put_line(five, out, end);
     }
     end
 }
 
 // How many answers a batch wrote.
-pub fn answers(left: Batch) -> usize
+pub fn answers(left: Result<BatchRead, WrongTables>) -> usize
     ensures { result ≡ answers_count left }
 {
     match left {
-        Batch::Read(n, _, _, _) => n,
-        Batch::WrongTables => 0,
+        Ok(read) => read.answers,
+        Err(_) => 0,
     }
 }
 
 // What a page leaves: as `tag_batch::read_batch` does, and how long the text is.
 #[derive(Clone, Copy)]
 pub struct Paged {
-    pub left: Batch,
+    pub left: Result<BatchRead, WrongTables>,
     pub length: usize,
 }
 
@@ -178,8 +140,5 @@ pub fn page<'a>(
     let left = tag_batch::read_batch(tag, starts, ends, hashes, at, numbers);
     let to = 5 * answers(left);
     let length = put_lines(&numbers[..to], out);
-    Paged {
-        left: left,
-        length: length,
-    }
+    Paged { left, length }
 }

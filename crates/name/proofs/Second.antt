@@ -1,4 +1,4 @@
--- Document 02, request 2: the colon that a split tells is the name's second. Colons are counted here, one by one from the start, and
+-- Document 02, request 2: the colon that `second_colon` answers with is the name's second. Colons are counted here, one by one from the start, and
 -- nothing is said of searches.
 use Prim.Native.Nat.{ℕ, zero, suc, ◌+◌, ◌-◌, ◌≤◌, ◌<◌}
 use mathlib.Core.Path.{◌≡◌, refl, sym, ap, ◌∙◌}
@@ -14,10 +14,10 @@ use borrow.Author.Tests.{lt-ltb, le-ltb, ltb-true, ltb-false, eqb-true, eq-eqb}
 use Rattle.scan.specs.First.{pick, first_from, first_to, first_of}
 use Rattle.scan.specs.Bytes.{bytes, bytes_from, is_byte}
 use Rattle.scan.proofs.Laws.{IsFirst, first, first_only}
-use Rattle.name.specs.Split.{colon_at, has_colon, local_at, second_at, second_of, colon_or}
+use Rattle.name.specs.Split.{colon_at, has_colon, local_at, second_at, second_of}
 use Rattle.name.specs.Second.{colons, IsSecond, SecondExactly}
-use Rattle.name.specs.declared.Colon.TheVariants.{At, Nowhere}
-use Rattle.name.proofs.Split.{at_nowhere, colon_first, local_place, no_colon, colon_inside, colon_outside, second_whole}
+use Rattle.std.specs.Prelude.{Some, None}
+use Rattle.name.proofs.Split.{colon_first, local_place, no_colon, colon_inside, colon_outside, second_whole}
 
 -- Counting up to a place, and on from there.
 
@@ -108,11 +108,11 @@ module _ (name : List ℕ) where
     second_past = rw (second_whole name (colon_at name) refl (colon_outside name h)) (colon_outside name h)
 
   -- What is told where there is a second colon, and where there is none.
-  told_at : second_at name < length name → second_of name ≡ At (second_at name)
+  told_at : second_at name < length name → second_of name ≡ Some (second_at name)
   unfolding second_of
   told_at l = rw (lt-ltb (second_at name) (length name) l)
 
-  told_none : length name ≤ second_at name → second_of name ≡ Nowhere
+  told_none : length name ≤ second_at name → second_of name ≡ None
   unfolding second_of
   told_none l = rw (le-ltb (second_at name) (length name) l)
 
@@ -169,11 +169,11 @@ module _ (name : List ℕ) where
         (second_from (colon_at name) refl (colon_inside name some_colon))
         (record { ahead = behind; inside = omega (arith, s.inside); found = λ h. eq-eqb (get_or name j 0) 58 s.colon; before = between })
 
-    tells_it : second_of name ≡ At j
+    tells_it : second_of name ≡ Some j
     tells_it =
         let e = second_there in
         let i = s.inside in
-        told_at (omega arith) ∙ ap At e
+        told_at (omega arith) ∙ ap Some e
 
     two_counted : 2 ≤ colons name
     unfolding count is_byte
@@ -185,13 +185,12 @@ module _ (name : List ℕ) where
         let r' = rw q at r in
         omega (arith, count_whole, s.before)
 
-  told_there : (j : ℕ) (t : Bool) → ltb (second_at name) (length name) ≡ t → second_of name ≡ At j → IsSecond name j
-  unfolding colon_or
+  told_there : (j : ℕ) (t : Bool) → ltb (second_at name) (length name) ≡ t → second_of name ≡ Some j → IsSecond name j
   told_there j true h e =
       let l = ltb-true (second_at name) (length name) h in
-      let q : j ≡ second_at name = ap (colon_or 0) (sym e ∙ told_at l) in
+      let q : j ≡ second_at name = cc (told_at l) in
       is_second j q (omega arith)
-  told_there j false h e = absurd (at_nowhere j (sym e ∙ told_none (ltb-false (second_at name) (length name) h)))
+  told_there j false h e = cc (told_none (ltb-false (second_at name) (length name) h))
 
   few_counted : length name ≤ second_at name → colons name < 2
   few_counted l = by (has_colon name) refl where
@@ -201,11 +200,11 @@ module _ (name : List ℕ) where
         omega (arith, counted_one (colon_at name) refl i (length name) (omega arith) l, count_whole)
     by false h = omega (arith, nothing_counted h (length name) (omega arith), count_whole)
 
-  none_there : (t : Bool) → ltb (second_at name) (length name) ≡ t → second_of name ≡ Nowhere → colons name < 2
-  none_there true h e = absurd (at_nowhere (second_at name) (sym (told_at (ltb-true (second_at name) (length name) h)) ∙ e))
+  none_there : (t : Bool) → ltb (second_at name) (length name) ≡ t → second_of name ≡ None → colons name < 2
+  none_there true h e = cc (told_at (ltb-true (second_at name) (length name) h))
   none_there false h e = few_counted (ltb-false (second_at name) (length name) h)
 
-  too_few : (t : Bool) → ltb (second_at name) (length name) ≡ t → colons name < 2 → second_of name ≡ Nowhere
+  too_few : (t : Bool) → ltb (second_at name) (length name) ≡ t → colons name < 2 → second_of name ≡ None
   too_few true h f = absurd (omega (arith, two_counted (second_at name) (is_second (second_at name) refl (ltb-true (second_at name) (length name) h))))
   too_few false h f = told_none (ltb-false (second_at name) (length name) h)
 
@@ -215,7 +214,7 @@ second_colon_exactly name =
     record { told = λ j. told_there name j t refl; tells = tells_it name; none = none_there name t refl; few = too_few name t refl }
 
 -- Applied: `a:b:c` and `xmlns:a:b` have a second colon, which is told; `a:` has one colon and `a` none, and none is told.
-pub second_instances : IsSecond (bytes "a:b:c") 3 × IsSecond (bytes "xmlns:a:b") 7 × (second_of (bytes "a::") ≡ At 2) × (colons (bytes "a:") < 2) × (second_of (bytes "a") ≡ Nowhere)
+pub second_instances : IsSecond (bytes "a:b:c") 3 × IsSecond (bytes "xmlns:a:b") 7 × (second_of (bytes "a::") ≡ Some 2) × (colons (bytes "a:") < 2) × (second_of (bytes "a") ≡ None)
 unfolding colons second_of second_at local_at has_colon colon_at first_from first_to first_of is_byte bytes bytes_from
 second_instances = (
   (second_colon_exactly (bytes "a:b:c")).told 3 refl,

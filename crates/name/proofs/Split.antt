@@ -1,7 +1,7 @@
 -- The laws of the split: what each answer of the code is, that the parts put together give the name back, and that a
 -- prefix with no colon, a colon and any rest split into just these.
 use Prim.Native.Nat.{ℕ, ◌+◌, ◌≤◌, ◌<◌}
-use mathlib.Core.Path.{◌≡◌, refl, sym, ap, ◌∙◌}
+use mathlib.Core.Path.{◌≡◌, refl, sym, ◌∙◌}
 use mathlib.Core.Bool.{Bool, true, false, true≢false}
 use mathlib.Core.List.{List, [], ◌∷◌, ◌++◌}
 use native.Mathlib.Numerals.{add-one}
@@ -12,16 +12,11 @@ use borrow.Author.Tests.{lt-ltb, le-ltb, ltb-true, ltb-false, eqb-true}
 use lib.Dec.{ltb}
 use Rattle.scan.specs.First.{pick, first_from, second_in}
 use Rattle.scan.specs.Bytes.{is_byte}
-use Rattle.name.specs.Split.{colon_at, has_colon, colon_of, prefix_of, local_at, local_of, second_at, second_of, colon_numbers, colon_or, parts_of}
-use Rattle.name.specs.declared.Colon.{Colon}
-use Rattle.name.specs.declared.Colon.TheVariants.{At, Nowhere}
+use Rattle.name.specs.Split.{colon_at, has_colon, colon_of, prefix_of, local_at, local_of, second_at, second_of, colon_or, parts_of}
+use Rattle.std.specs.Prelude.{Option, Some, None, MatchOption}
+use Rattle.std.specs.Bool.{then_some}
 use Rattle.name.specs.declared.Parts.{Parts}
 use Rattle.scan.proofs.Laws.{IsFirst, first, first_only}
-
--- a place is not that there is none
-pub at_nowhere : (j : ℕ) → At j ≡ Nowhere → ⊥
-unfolding colon_numbers
-at_nowhere j e = omega (arith, ap length (ap colon_numbers e))
 
 -- a colon at a place below the length
 module _ (name : List ℕ) (at : ℕ) (e : at ≡ colon_at name) (h : at < length name) where
@@ -29,7 +24,7 @@ module _ (name : List ℕ) (at : ℕ) (e : at ≡ colon_at name) (h : at < lengt
   unfolding has_colon
   has = rw (← e) (lt-ltb at (length name) h)
 
-  pub colon_at_lem : At at ≡ colon_of name
+  pub colon_at_lem : Some at ≡ colon_of name
   unfolding colon_of
   colon_at_lem = rw (has, ← e)
 
@@ -45,7 +40,7 @@ module _ (name : List ℕ) (at : ℕ) (e : at ≡ colon_at name) (h : at < lengt
   unfolding local_of
   local_at_lem = rw (← local_place)
 
-  pub parts_at : ◌≡◌ {A = Parts} (record { colon = At at; local = at + 1 }) (parts_of name)
+  pub parts_at : ◌≡◌ {A = Parts} (record { colon = Some at; local = at + 1 }) (parts_of name)
   unfolding parts_of
   parts_at = rw (← colon_at_lem, ← local_place)
 
@@ -55,7 +50,7 @@ module _ (name : List ℕ) (at : ℕ) (e : at ≡ colon_at name) (h : length nam
   unfolding has_colon
   has_none = rw (← e) (le-ltb at (length name) h)
 
-  pub colon_nowhere : Nowhere ≡ colon_of name
+  pub colon_nowhere : None ≡ colon_of name
   unfolding colon_of
   colon_nowhere = rw has_none
 
@@ -75,7 +70,7 @@ module _ (name : List ℕ) (at : ℕ) (e : at ≡ colon_at name) (h : length nam
   unfolding second_at colon_at
   second_whole = rw (← local_whole)
 
-  pub parts_none : ◌≡◌ {A = Parts} (record { colon = Nowhere; local = 0 }) (parts_of name)
+  pub parts_none : ◌≡◌ {A = Parts} (record { colon = None; local = 0 }) (parts_of name)
   unfolding parts_of
   parts_none = rw (← colon_nowhere, ← local_whole)
 
@@ -91,13 +86,17 @@ second_place name = by (ltb (first_from (is_byte 58) name 0) (length name)) refl
       omega arith
 
 -- what the code makes of a place that it found
-pub first_told : (name : List ℕ) (at : ℕ) (r : Colon) → at ≡ colon_at name → r ≡ pick (ltb at (length name)) (At at) Nowhere → r ≡ colon_of name
-unfolding colon_of has_colon
-first_told name at r e h = h ∙ rw e
+some_where : (t : Bool) (at : ℕ) → then_some t at ≡ pick t (Some at) None
+some_where true at = refl
+some_where false at = refl
 
-pub second_told : (name : List ℕ) (at : ℕ) (r : Colon) → at ≡ second_at name → r ≡ pick (ltb at (length name)) (At at) Nowhere → r ≡ second_of name
+pub first_told : (name : List ℕ) → then_some (ltb (colon_at name) (length name)) (colon_at name) ≡ colon_of name
+unfolding colon_of has_colon
+first_told name = some_where (ltb (colon_at name) (length name)) (colon_at name)
+
+pub second_told : (name : List ℕ) → then_some (ltb (second_at name) (length name)) (second_at name) ≡ second_of name
 unfolding second_of
-second_told name at r e h = h ∙ rw e
+second_told name = some_where (ltb (second_at name) (length name)) (second_at name)
 
 -- what `colon_at` is: the first place of a colon
 pub colon_first : (name : List ℕ) → IsFirst (λ j. is_byte 58 (get_or name j 0)) 0 (length name) (colon_at name)
@@ -113,21 +112,28 @@ unfolding has_colon
 colon_outside name = ltb-false (colon_at name) (length name)
 
 -- what an answer says
-pub colon_there : (name : List ℕ) (at : ℕ) → At at ≡ colon_of name → (at ≡ colon_at name) × (at < length name)
-unfolding colon_of colon_or
+pub colon_there : (name : List ℕ) (at : ℕ) → Some at ≡ colon_of name → (at ≡ colon_at name) × (at < length name)
+unfolding colon_of
 colon_there name at e = by (has_colon name) refl e where
-  by : (t : Bool) → has_colon name ≡ t → At at ≡ pick t (At (colon_at name)) Nowhere → (at ≡ colon_at name) × (at < length name)
+  by : (t : Bool) → has_colon name ≡ t → Some at ≡ pick t (Some (colon_at name)) None → (at ≡ colon_at name) × (at < length name)
   by true h q =
-      let s : at ≡ colon_at name = ap (colon_or 0) q in
+      let s : at ≡ colon_at name = cc in
       (s, rw s (colon_inside name h))
-  by false h q = absurd (at_nowhere at q)
+  by false h q = cc
 
-pub colon_missing : (name : List ℕ) → Nowhere ≡ colon_of name → length name ≤ colon_at name
+pub colon_missing : (name : List ℕ) → None ≡ colon_of name → length name ≤ colon_at name
 unfolding colon_of
 colon_missing name e = by (has_colon name) refl e where
-  by : (t : Bool) → has_colon name ≡ t → Nowhere ≡ pick t (At (colon_at name)) Nowhere → length name ≤ colon_at name
-  by true h q = absurd (at_nowhere (colon_at name) (sym q))
+  by : (t : Bool) → has_colon name ≡ t → None ≡ pick t (Some (colon_at name)) None → length name ≤ colon_at name
+  by true h q = cc
   by false h q = colon_outside name h
+
+-- both parts, by what the code asks of the first colon
+pub parts_told : (name : List ℕ) (colon : Option ℕ) (local : ℕ) → colon ≡ colon_of name → MatchOption colon (local ≡ 0) (λ at. local ≡ at + 1) → ◌≡◌ {A = Parts} (record { colon = colon; local = local }) (parts_of name)
+parts_told name (Some at) local e h =
+    let t = colon_there name at e in
+    rw h (parts_at name at t.0 t.1)
+parts_told name None local e h = rw h (parts_none name (colon_at name) refl (colon_missing name e))
 
 -- no byte of a name without a colon is one
 pub no_colon : (name : List ℕ) → has_colon name ≡ false → (k : ℕ) → k < length name → is_byte 58 (get_or name k 0) ≡ false
@@ -205,7 +211,7 @@ second_inside name = (first (is_byte 58) name (local_at name) (by (has_colon nam
 pub second_number_lem : (name : List ℕ) → colon_or (length name) (second_of name) ≡ second_at name
 unfolding second_of colon_or
 second_number_lem name = by (ltb (second_at name) (length name)) refl where
-  by : (t : Bool) → ltb (second_at name) (length name) ≡ t → colon_or (length name) (pick t (At (second_at name)) Nowhere) ≡ second_at name
+  by : (t : Bool) → ltb (second_at name) (length name) ≡ t → colon_or (length name) (pick t (Some (second_at name)) None) ≡ second_at name
   by true h = refl
   by false h =
       let i = second_inside name in

@@ -1,10 +1,9 @@
--- Document 02, request 2, in its own words: the colon that a split tells is the name's second. Colons are counted here, one by one
+-- Document 02, request 2, in its own words: the colon that `second_colon` answers with is the name's second. Colons are counted here, one by one
 -- from the start, and nothing is said of searches (`second_colon_exactly`, proofs/Second).
-use Rattle.std.specs.Prelude.{ℕ, suc, ◌<◌, ◌≡◌, List, [], ◌∷◌, length, take, get_or}
+use Rattle.std.specs.Prelude.{ℕ, suc, ◌<◌, ◌≡◌, List, [], ◌∷◌, length, take, get_or, Some, None}
 use Rattle.scan.specs.First.{pick}
 use Rattle.scan.specs.Bytes.{is_byte}
 use Rattle.name.specs.Split.{second_of}
-use Rattle.name.specs.declared.Colon.TheVariants.{At, Nowhere}
 
 -- how many colons there are
 unfoldable pub colons : List ℕ → ℕ
@@ -19,7 +18,7 @@ pub record IsSecond (name : List ℕ) (j : ℕ) : Type 0 where
 
 -- The second colon is told, and at its place, exactly if there is one: if the name has two colons or more.
 pub record SecondExactly (name : List ℕ) : Type 0 where
-  pub told : (j : ℕ) → second_of name ≡ At j → IsSecond name j
-  pub tells : (j : ℕ) → IsSecond name j → second_of name ≡ At j
-  pub none : second_of name ≡ Nowhere → colons name < 2
-  pub few : colons name < 2 → second_of name ≡ Nowhere
+  pub told : (j : ℕ) → second_of name ≡ Some j → IsSecond name j
+  pub tells : (j : ℕ) → IsSecond name j → second_of name ≡ Some j
+  pub none : second_of name ≡ None → colons name < 2
+  pub few : colons name < 2 → second_of name ≡ None

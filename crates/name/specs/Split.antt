@@ -1,9 +1,7 @@
 -- A name splits at its first colon.
-use Rattle.std.specs.Prelude.{ℕ, ◌+◌, Bool, List, [], ◌∷◌, length, take, drop, ltb}
+use Rattle.std.specs.Prelude.{ℕ, ◌+◌, Bool, List, [], ◌∷◌, length, take, drop, ltb, Option, Some, None}
 use Rattle.scan.specs.First.{pick, first_from}
 use Rattle.scan.specs.Bytes.{is_byte}
-use Rattle.name.specs.declared.Colon.{Colon}
-use Rattle.name.specs.declared.Colon.TheVariants.{At, Nowhere}
 use Rattle.name.specs.declared.Parts.{Parts}
 
 -- the place of the first colon (58), the length where there is none
@@ -15,8 +13,8 @@ unfoldable pub has_colon : List ℕ → Bool
 has_colon name = ltb (colon_at name) (length name)
 
 -- the place, or that there is none
-unfoldable pub colon_of : List ℕ → Colon
-colon_of name = pick (has_colon name) (At (colon_at name)) Nowhere
+unfoldable pub colon_of : List ℕ → Option ℕ
+colon_of name = pick (has_colon name) (Some (colon_at name)) None
 
 -- The prefix is what stands before the first colon. A name with none has no prefix, and no bytes here.
 unfoldable pub prefix_of : List ℕ → List ℕ
@@ -31,14 +29,14 @@ unfoldable pub local_of : List ℕ → List ℕ
 local_of name = drop (local_at name) name
 
 -- a colon by numbers: its place, if there is one
-unfoldable pub colon_numbers : Colon → List ℕ
-colon_numbers (At i) = i ∷ []
-colon_numbers Nowhere = []
+unfoldable pub colon_numbers : Option ℕ → List ℕ
+colon_numbers (Some i) = i ∷ []
+colon_numbers None = []
 
 -- and by one number: its place, or another number where there is none
-unfoldable pub colon_or : ℕ → Colon → ℕ
-colon_or other (At i) = i
-colon_or other Nowhere = other
+unfoldable pub colon_or : ℕ → Option ℕ → ℕ
+colon_or other (Some i) = i
+colon_or other None = other
 
 -- the place of the first colon of the local part, counted from the start of the name; the name's length where there is none.
 -- A name with no colon is its own local part, and has none.
@@ -46,8 +44,8 @@ unfoldable pub second_at : List ℕ → ℕ
 second_at name = first_from (is_byte 58) name (local_at name)
 
 -- the place, or that there is none
-unfoldable pub second_of : List ℕ → Colon
-second_of name = pick (ltb (second_at name) (length name)) (At (second_at name)) Nowhere
+unfoldable pub second_of : List ℕ → Option ℕ
+second_of name = pick (ltb (second_at name) (length name)) (Some (second_at name)) None
 
 -- both, as places
 unfoldable pub parts_of : List ℕ → Parts

@@ -1,13 +1,10 @@
 -- The verdict on a declaration, by Namespaces 1.0.
-use Rattle.std.specs.Prelude.{ℕ, Bool, not, ◌&&◌, ◌||◌, List, length, eqb}
-use Rattle.scan.specs.First.{pick}
+use Rattle.std.specs.Prelude.{ℕ, Bool, true, false, not, ◌&&◌, ◌||◌, List, length, eqb, Option, Some, None}
 use Rattle.name.specs.Split.{has_colon}
 use Rattle.name.specs.Reserved.{is_xml, is_xmlns, is_xml_uri, is_xmlns_uri}
 use Rattle.name.specs.Declares.{declares_of, declared_prefix}
 use Rattle.name.specs.declared.PrefixDeclaration.{PrefixDeclaration}
-use Rattle.name.specs.declared.PrefixDeclaration.TheVariants.{Nothing, Default, Named}
-use Rattle.name.specs.declared.Verdict.{Verdict}
-use Rattle.name.specs.declared.Verdict.TheVariants.{Yes, No, NoDeclaration}
+use Rattle.name.specs.declared.PrefixDeclaration.TheVariants.{Default, Named}
 
 unfoldable pub is_empty : List ℕ → Bool
 is_empty s = eqb (length s) 0
@@ -35,17 +32,17 @@ verdict_named prefix value = not (is_refused prefix value)
 unfoldable pub verdict_default : (value : List ℕ) → Bool
 verdict_default value = not (is_xml_uri value || is_xmlns_uri value)
 
-unfoldable pub verdict_on : PrefixDeclaration → (prefix value : List ℕ) → Verdict
-verdict_on Nothing prefix value = NoDeclaration
-verdict_on Default prefix value = pick (verdict_default value) Yes No
-verdict_on Named prefix value = pick (verdict_named prefix value) Yes No
+unfoldable pub verdict_on : Option PrefixDeclaration → (prefix value : List ℕ) → Option Bool
+verdict_on None prefix value = None
+verdict_on (Some Default) prefix value = Some (verdict_default value)
+verdict_on (Some Named) prefix value = Some (verdict_named prefix value)
 
--- the verdict on an attribute, by its whole name
-unfoldable pub verdict_of : (name value : List ℕ) → Verdict
+-- the verdict on an attribute, by its whole name: yes, no, or none where it declares nothing
+unfoldable pub verdict_of : (name value : List ℕ) → Option Bool
 verdict_of name value = verdict_on (declares_of name) (declared_prefix name) value
 
 -- the number of each answer
-abbrev pub verdict_number : Verdict → ℕ
-verdict_number No = 0
-verdict_number Yes = 1
-verdict_number NoDeclaration = 2
+abbrev pub verdict_number : Option Bool → ℕ
+verdict_number (Some false) = 0
+verdict_number (Some true) = 1
+verdict_number None = 2

@@ -5,63 +5,46 @@
 // stand here once each, as byte strings, in the four `is_` functions; specs/Reserved.antt has them as text.
 #![tactic(auto)]
 
-ghost use Rattle.std.specs.Prelude.{◌≡◌, ltb};
-ghost use Rattle.scan.specs.First.{pick};
-ghost use Rattle.name.specs.declared.Colon.TheVariants.{At, Nowhere};
+ghost use Rattle.std.specs.Prelude.{◌≡◌};
 ghost use Rattle.name.specs.Split.{colon_at, colon_of, prefix_of, local_of, second_at, second_of, parts_of};
 ghost use Rattle.name.specs.Reserved.{is_xml, is_xmlns, is_xml_uri, is_xmlns_uri};
 ghost use Rattle.name.specs.Declares.{declares_of, declares_number, declared_prefix};
 ghost use Rattle.name.specs.Bind.{reserved_bind, named_numbers};
 ghost use Rattle.name.specs.Verdict.{verdict_named, verdict_default, verdict_of, verdict_number};
 
-// Where the first colon of a name is. `:a` has one at 0, so its prefix is there and empty; `a` has none, and no prefix.
-#[derive(Clone, Copy)]
-pub enum Colon {
-    At(usize),
-    Nowhere,
-}
-
 // Both parts of a name, as places in it. Where there is a colon the prefix is before it and the local part after it;
 // where there is none, `local` is 0.
 #[derive(Clone, Copy)]
 pub struct Parts {
-    pub colon: Colon,
+    pub colon: Option<usize>,
     pub local: usize,
 }
 
-// What a name declares when an attribute has it: `Option<PrefixDeclaration>` of src/name.rs. The prefix of a `Named` one
-// is `declared_prefix` of the same name.
+// What a name declares when an attribute has it. The prefix of a `Named` one is `declared_prefix` of the same name. `a`,
+// `xml` and `xmlnsa` declare nothing.
 #[derive(Clone, Copy)]
 pub enum PrefixDeclaration {
-    // `a`, `xml`, `xmlnsa`
-    Nothing,
     // `xmlns`
     Default,
     // `xmlns:p`, and `xmlns:` whose prefix is empty
     Named,
 }
 
-impl PrefixDeclaration {
-    // As a number, for an exported function, which hands out no enum. The crate has no such number.
-    pub fn number(self) -> usize
-        ensures { result ≡ declares_number self }
-    {
-        match self {
-            PrefixDeclaration::Nothing => 0,
-            PrefixDeclaration::Default => 1,
-            PrefixDeclaration::Named => 2,
-        }
+// What a name declares as a number, for an exported function, which hands out no enum. The crate has no such number.
+pub fn declares_number(declares: Option<PrefixDeclaration>) -> usize
+    ensures { result ≡ declares_number declares }
+{
+    match declares {
+        None => 0,
+        Some(PrefixDeclaration::Default) => 1,
+        Some(PrefixDeclaration::Named) => 2,
     }
 }
 
-// What the rules on reserved prefixes and URIs say of a named prefix and its value. The four refusals are those of
-// `NamespaceError`; the text that each holds there is the value in the first two, and the prefix in the last two.
+// Why the rules on reserved prefixes and URIs refuse to bind a named prefix to a value: the four refusals are those of
+// `NamespaceError`. The text that each holds there is the value in the first two, and the prefix in the last two.
 #[derive(Clone, Copy)]
-pub enum NamedCheck {
-    // nothing reserved is touched: the binding is to be added
-    Fine,
-    // `xml` to its own URI: already bound
-    AddsNothing,
+pub enum ReservedBinding {
     // `xml` to another URI
     InvalidXmlPrefixBind,
     // `xmlns` to anything
@@ -72,25 +55,11 @@ pub enum NamedCheck {
     InvalidPrefixForXmlns,
 }
 
-// Whether Namespaces 1.0 allows an attribute as a declaration.
-#[derive(Clone, Copy)]
-pub enum Verdict {
-    Yes,
-    No,
-    NoDeclaration,
-}
-
-impl Verdict {
-    // As a number, likewise.
-    pub fn number(self) -> usize
-        ensures { result ≡ verdict_number self }
-    {
-        match self {
-            Verdict::No => 0,
-            Verdict::Yes => 1,
-            Verdict::NoDeclaration => 2,
-        }
-    }
+// A verdict as a number, for an exported function, which hands out no `Option`: 0 for no, 1 for yes, 2 where nothing is declared.
+pub fn verdict_number(verdict: Option<bool>) -> usize
+    ensures { result ≡ verdict_number verdict }
+{
+    verdict.map_or(2, usize::from)
 }
 
 // The place of the first colon, or the length where there is none: what `QName::index` looks for, src/name.rs.
@@ -100,19 +69,17 @@ pub fn colon_at(name: &[u8]) -> usize
     scan::byte_near(name, b':')
 }
 
-// The first colon: `QName::index`, src/name.rs.
+// The first colon: `QName::index`, src/name.rs. `:a` has one at 0, so its prefix is there and empty; `a` has none, and no
+// prefix.
 //
 //     a:b:c
 //      ^
 //      the answer
-pub fn index(name: &[u8]) -> Colon
+pub fn index(name: &[u8]) -> Option<usize>
     ensures { result ≡ colon_of name.now }
 {
     let at = colon_at(name);
-    if at < name.len() {
-        return Colon::At(at);
-    }
-    Colon::Nowhere
+    (at < name.len()).then_some(at)
 }
 
 // The bytes before the first colon, none where there is no colon: `QName::prefix`, src/name.rs. Whether there is a
@@ -123,11 +90,10 @@ pub fn index(name: &[u8]) -> Colon
 pub fn prefix(name: &[u8]) -> &[u8]
     ensures { result.now ≡ prefix_of name.now }
 {
-    let at = colon_at(name);
-    if at < name.len() {
-        return &name[..at];
+    match index(name) {
+        Some(at) => &name[..at],
+        None => &name[..0],
     }
-    &name[..0]
 }
 
 // The bytes after the first colon, the whole name where there is none: `QName::local_name`, src/name.rs.
@@ -137,12 +103,10 @@ pub fn prefix(name: &[u8]) -> &[u8]
 pub fn local_name(name: &[u8]) -> &[u8]
     ensures { result.now ≡ local_of name.now }
 {
-    let at = colon_at(name);
-    if at < name.len() {
-        let from = at + 1;
-        return &name[from..];
+    match index(name) {
+        Some(at) => &name[at + 1..],
+        None => name,
     }
-    name
 }
 
 // The place of the first colon of the local part, counted from the start of the name, or the name's length where there is
@@ -159,37 +123,21 @@ pub fn second_at(name: &[u8]) -> usize
 //     a:b:c
 //        ^
 //        the answer
-pub fn second_colon(name: &[u8]) -> Colon
+pub fn second_colon(name: &[u8]) -> Option<usize>
     ensures { result ≡ second_of name.now }
 {
-    colon_below(second_at(name), name.len())
-}
-
-// A place in a name of so many bytes, which is none where it is the length.
-fn colon_below(at: usize, len: usize) -> Colon
-    ensures { result ≡ pick (ltb at len) (At at) Nowhere }
-{
-    if at < len {
-        return Colon::At(at);
-    }
-    Colon::Nowhere
+    let at = second_at(name);
+    (at < name.len()).then_some(at)
 }
 
 // Both parts, found by one look at the name: `QName::decompose`, src/name.rs.
 pub fn decompose(name: &[u8]) -> Parts
     ensures { result ≡ parts_of name.now }
 {
-    let at = colon_at(name);
-    if at < name.len() {
-        Parts {
-            colon: Colon::At(at),
-            local: at + 1,
-        }
-    } else {
-        Parts {
-            colon: Colon::Nowhere,
-            local: 0,
-        }
+    let colon = index(name);
+    Parts {
+        colon,
+        local: colon.map_or(0, |at| at + 1),
     }
 }
 
@@ -221,27 +169,21 @@ pub fn is_xmlns_uri(value: &[u8]) -> bool
     scan::same(value, b"http://www.w3.org/2000/xmlns/")
 }
 
-// What a name declares: `QName::as_namespace_binding`, src/name.rs, in its order.
+// What a name declares, `None` for nothing: `QName::as_namespace_binding`, src/name.rs, in its order.
 //
 //     xmlns:p
 //     |    ^
 //     the reserved prefix, then its end, a colon, or another byte, which declares nothing
-pub fn as_namespace_binding(name: &[u8]) -> PrefixDeclaration
+pub fn as_namespace_binding(name: &[u8]) -> Option<PrefixDeclaration>
     ensures { result ≡ declares_of name.now }
 {
-    if name.len() < 5 {
-        return PrefixDeclaration::Nothing;
-    }
-    if !is_xmlns(&name[..5]) {
-        return PrefixDeclaration::Nothing;
+    if name.len() < 5 || !is_xmlns(&name[..5]) {
+        return None;
     }
     if name.len() == 5 {
-        return PrefixDeclaration::Default;
+        return Some(PrefixDeclaration::Default);
     }
-    if name[5] == b':' {
-        return PrefixDeclaration::Named;
-    }
-    PrefixDeclaration::Nothing
+    (name[5] == b':').then_some(PrefixDeclaration::Named)
 }
 
 // The prefix that a name declares, with no bytes where it declares none: what `PrefixDeclaration::Named` holds in
@@ -252,86 +194,63 @@ pub fn as_namespace_binding(name: &[u8]) -> PrefixDeclaration
 pub fn declared_prefix(name: &[u8]) -> &[u8]
     ensures { result.now ≡ declared_prefix name.now }
 {
-    let declares = as_namespace_binding(name);
-    match declares {
-        PrefixDeclaration::Nothing => &name[..0],
-        PrefixDeclaration::Default => &name[..0],
-        PrefixDeclaration::Named => &name[6..],
+    match as_namespace_binding(name) {
+        None => &name[..0],
+        Some(PrefixDeclaration::Default) => &name[..0],
+        Some(PrefixDeclaration::Named) => &name[6..],
     }
 }
 
 // What the reserved prefixes and URIs say of a named declaration: the `Named` arms of `NamespaceResolver::add`,
-// src/name.rs, in their order.
-pub fn check_named(prefix: &[u8], value: &[u8]) -> NamedCheck
+// src/name.rs, in their order. Where they refuse nothing, whether there is a binding to add: `xml` to its own URI is bound
+// already.
+pub fn check_named(prefix: &[u8], value: &[u8]) -> Result<bool, ReservedBinding>
     ensures { named_numbers result ≡ named_numbers (reserved_bind prefix.now value.now) }
 {
     if is_xml(prefix) {
         if is_xml_uri(value) {
-            return NamedCheck::AddsNothing;
+            return Ok(false);
         }
-        return NamedCheck::InvalidXmlPrefixBind;
+        return Err(ReservedBinding::InvalidXmlPrefixBind);
     }
     if is_xmlns(prefix) {
-        return NamedCheck::InvalidXmlnsPrefixBind;
+        return Err(ReservedBinding::InvalidXmlnsPrefixBind);
     }
     if is_xml_uri(value) {
-        return NamedCheck::InvalidPrefixForXml;
+        return Err(ReservedBinding::InvalidPrefixForXml);
     }
     if is_xmlns_uri(value) {
-        return NamedCheck::InvalidPrefixForXmlns;
+        return Err(ReservedBinding::InvalidPrefixForXmlns);
     }
-    NamedCheck::Fine
+    Ok(true)
 }
 
 // Whether Namespaces 1.0 allows a named prefix to be declared with a value. The crate has no such answer.
 pub fn verdict_named(prefix: &[u8], value: &[u8]) -> bool
     ensures { result ≡ verdict_named prefix.now value.now }
 {
-    let check = check_named(prefix, value);
-    match check {
-        NamedCheck::Fine => {}
-        NamedCheck::AddsNothing => return true,
-        _ => return false,
+    match check_named(prefix, value) {
+        Ok(true) => value.len() != 0 && prefix.len() != 0 && index(prefix).is_none(),
+        Ok(false) => true,
+        Err(_) => false,
     }
-    if value.len() == 0 {
-        return false;
-    }
-    if prefix.len() == 0 {
-        return false;
-    }
-    if colon_at(prefix) < prefix.len() {
-        return false;
-    }
-    true
 }
 
 // Whether Namespaces 1.0 allows a value as the default namespace: every value but the two reserved URIs.
 pub fn verdict_default(value: &[u8]) -> bool
     ensures { result ≡ verdict_default value.now }
 {
-    if is_xml_uri(value) {
-        return false;
-    }
-    !is_xmlns_uri(value)
+    !(is_xml_uri(value) || is_xmlns_uri(value))
 }
 
-// The verdict on an attribute, by its whole name: `NoDeclaration` for one that declares nothing.
-pub fn verdict_of(name: &[u8], value: &[u8]) -> Verdict
+// The verdict on an attribute, by its whole name: whether Namespaces 1.0 allows it as a declaration, and `None` for one that
+// declares nothing.
+pub fn verdict_of(name: &[u8], value: &[u8]) -> Option<bool>
     ensures { result ≡ verdict_of name.now value.now }
 {
-    let declares = as_namespace_binding(name);
-    match declares {
-        PrefixDeclaration::Nothing => return Verdict::NoDeclaration,
-        PrefixDeclaration::Default => {
-            if verdict_default(value) {
-                return Verdict::Yes;
-            }
-            return Verdict::No;
-        }
-        PrefixDeclaration::Named => {}
+    match as_namespace_binding(name) {
+        None => None,
+        Some(PrefixDeclaration::Default) => Some(verdict_default(value)),
+        Some(PrefixDeclaration::Named) => Some(verdict_named(declared_prefix(name), value)),
     }
-    if verdict_named(declared_prefix(name), value) {
-        return Verdict::Yes;
-    }
-    Verdict::No
 }

@@ -5,16 +5,15 @@ use mathlib.Core.Bool.{Bool, true, false, not, ◌&&◌, ◌||◌}
 use lib.ListN.{length, replicate, take}
 use lib.Dec.{leb}
 use borrow.Author.Tests.{leb-true}
+use Rattle.std.specs.Prelude.{Some, Err, None, Ok}
 use Rattle.scan.proofs.Bytes.{both}
 use Rattle.tag_keys.specs.Keys.{capacity, KeysIn}
-use Rattle.tag_step.specs.declared.Answer.{Answer}
-use Rattle.tag_step.specs.declared.Answer.TheVariants.{End, DoubleQ, SingleQ, Unquoted, Empty, ExpectedEq, ExpectedValue, UnquotedValue, ExpectedQuote, Duplicated, KeyTableFull, BadState}
+use Rattle.tag_step.specs.declared.AttrError.TheVariants.{BadState}
 use Rattle.tag_step.specs.declared.Place.TheVariants.{Done}
 use Rattle.tag_step.specs.declared.Step.{Step}
 use Rattle.tag_step.specs.Next.{keys_of, keys_lent, good_of, state_good, next_of, lent_state}
 use Rattle.tag_step.specs.Look.{look_of}
 use Rattle.tag_step.specs.Numbers.{numbered_step}
-use Rattle.tag_step.specs.Run.{is_end}
 use Rattle.tag_step.proofs.Whole.{good_inside}
 use Rattle.tag_step.proofs.Good.{Sized}
 use Rattle.tag_step.proofs.Lent.{full_next, full_held, full_leaves}
@@ -23,7 +22,6 @@ use Rattle.tag_phase.specs.declared.Phase.{Phase}
 use Rattle.tag_phase.specs.declared.Phase.TheVariants.{Begin}
 use Rattle.tag_phase.specs.Phase.{waits_on}
 use Rattle.tag_pieces.specs.declared.Reader.{Reader}
-use Rattle.tag_pieces.specs.declared.Taken.TheVariants.{More, Gives}
 use Rattle.tag_pieces.specs.Reader.{held_of, iterator_of, reader_good, moved, emptied, waits_for, took, phase_after, answered_of, take_of}
 
 -- a reader of the code: its key tables have as many places as the capacity
@@ -52,7 +50,7 @@ module _ (r : Reader) where
   unfolding waits_for held_of keys_of
   waits_so = refl
 
-  pub take_bad : good_in ≡ false → took (Gives BadState) (emptied r) ≡ take_of r
+  pub take_bad : good_in ≡ false → took (Ok (Some (Some (Err BadState)))) (emptied r) ≡ take_of r
   unfolding take_of
   take_bad g = rw (sym is_good ∙ g)
 
@@ -64,7 +62,7 @@ module _ (r : Reader) where
     pub good_keys : KeysIn r.starts r.ends r.hashes r.count (take r.held r.text)
     good_keys = good_inside (take r.held r.text) (keys_lent r.starts r.ends r.hashes r.count) r.place (both (leb r.held (length r.text)) _ g).1
 
-    pub take_more : waits_in ≡ true → took More r ≡ take_of r
+    pub take_more : waits_in ≡ true → took (Ok None) r ≡ take_of r
     unfolding take_of
     take_more w = rw (sym is_good ∙ g, sym waits_so ∙ w)
 
@@ -80,32 +78,8 @@ module _ (r : Reader) where
 
     -- no key lacks a place there: an answer is that of the iterator's own `next`
     pub full_answers : (x : Step) → numbered_step x ≡ numbered_step (next_of (held_of r) (iterator_of r)) → (p : Phase) → p ≡ phase_after x.answer r.phase → (y : Reader) → y ≡ moved r x.state r.held p
-        → took (Gives x.answer) y ≡ answered_of (held_of r) (iterator_of r) r
+        → took (Ok (Some x.answer)) y ≡ answered_of (held_of r) (iterator_of r) r
     unfolding answered_of
     full_answers x e p f y g =
         rw (g, f, full_held (held_of r) (iterator_of r) z, full_next (held_of r) (iterator_of r) z, full_leaves (held_of r) (iterator_of r) z)
-        (ap (λ (w : Step). took (Gives w.answer) (moved r w.state r.held (phase_after w.answer r.phase))) (step_apart x (next_of (held_of r) (iterator_of r)) e))
-
--- An answer as the code sees it.
-
-no_end : (a : Answer) → (a ≡ End → ⊥) → is_end a ≡ false
-unfolding is_end
-no_end End n = absurd (n refl)
-no_end (DoubleQ k v) t = refl
-no_end (SingleQ k v) t = refl
-no_end (Unquoted k v) t = refl
-no_end (Empty k) t = refl
-no_end (ExpectedEq p) t = refl
-no_end (ExpectedValue l) t = refl
-no_end (UnquotedValue p) t = refl
-no_end (ExpectedQuote l q) t = refl
-no_end (Duplicated this earlier) t = refl
-no_end (KeyTableFull this) t = refl
-no_end BadState t = refl
-
-pub phase_anew : (a : Answer) (phase : Phase) → (a ≡ End → ⊥) → Begin ≡ phase_after a phase
-phase_anew a phase k = rw (no_end a k)
-
-pub phase_stays : (a : Answer) (phase : Phase) → a ≡ End → phase ≡ phase_after a phase
-unfolding is_end
-phase_stays a phase e = rw e
+        (ap (λ (w : Step). took (Ok (Some w.answer)) (moved r w.state r.held (phase_after w.answer r.phase))) (step_apart x (next_of (held_of r) (iterator_of r)) e))

@@ -14,8 +14,8 @@ ghost use Rattle.reader.specs.Numbers.{numbered_feeding, numbered_take};
 
 use tag_keys::CAPACITY;
 use tag_phase::Phase;
-use tag_pieces::{Cursor, Fed, Feeding, HOLD, Reader, Take, Taken};
-use tag_step::{Answer, IterState, Place, Standing};
+use tag_pieces::{Cursor, FeedError, Feeding, Growth, HOLD, Reader, Take};
+use tag_step::{Answer, AttrError, IterState, Place, Standing};
 
 // A reader that is opened at `offset`, with checks on. Nothing is held.
 #[tactic(auto, unfolding(tag_step::specs::Next::no_keys, tag_pieces::specs::Reader::opened_reader))]
@@ -28,7 +28,7 @@ pub fn new(offset: usize, html: bool) -> Reader
         finished: false,
         phase: Phase::Begin,
         place: Place::Next(offset),
-        html: html,
+        html,
         check_duplicates: true,
         starts: [0; CAPACITY],
         ends: [0; CAPACITY],
@@ -42,9 +42,10 @@ pub fn new(offset: usize, html: bool) -> Reader
 pub fn with_checks(r: Reader, checks: bool) -> Reader
     ensures { result ≡ with_checks checks r }
 {
-    let mut left = r;
-    left.check_duplicates = checks;
-    left
+    Reader {
+        check_duplicates: checks,
+        ..r
+    }
 }
 
 // One piece more, of no bytes or more. Where it is refused the reader stays as it was.
@@ -52,37 +53,23 @@ pub fn piece(r: Reader, piece: &[u8]) -> Feeding
     ensures { numbered_feeding result ≡ numbered_feeding (piece_of piece.now r) }
 {
     let mut text = r.text;
-    let place = r.place;
-    let phase = r.phase;
     let at = Cursor {
-        place: place,
+        place: r.place,
         html: r.html,
         checks: r.check_duplicates,
         count: r.count,
         held: r.held,
         finished: r.finished,
-        phase: phase,
+        phase: r.phase,
     };
-    let growth = tag_pieces::piece_in(&mut text, at, piece);
-    let fed = growth.fed;
-    let after = growth.phase;
-    let starts = r.starts;
-    let ends = r.ends;
-    let hashes = r.hashes;
+    let Growth { fed, held, phase } = tag_pieces::piece_in(&mut text, at, piece);
     Feeding {
-        fed: fed,
+        fed,
         reader: Reader {
-            text: text,
-            held: growth.held,
-            finished: r.finished,
-            phase: after,
-            place: place,
-            html: r.html,
-            check_duplicates: r.check_duplicates,
-            starts: starts,
-            ends: ends,
-            hashes: hashes,
-            count: r.count,
+            text,
+            held,
+            phase,
+            ..r
         },
     }
 }
@@ -93,15 +80,16 @@ pub fn finish(r: Reader) -> Feeding
 {
     if r.finished {
         return Feeding {
-            fed: Fed::Finished,
+            fed: Err(FeedError::Finished),
             reader: r,
         };
     }
-    let mut left = r;
-    left.finished = true;
     Feeding {
-        fed: Fed::Accepted,
-        reader: left,
+        fed: Ok(()),
+        reader: Reader {
+            finished: true,
+            ..r
+        },
     }
 }
 
@@ -117,11 +105,7 @@ fn good_in<'a>(
     ensures { result ≡ (leb held (length text.now)
         && good_of (take held text.now) (keys_lent starts.now ends.now hashes.now at.count) at.place) }
 {
-    if held > text.len() {
-        return false;
-    }
-    let place = at.place;
-    tag_step::good_in(&text[..held], starts, ends, hashes, at.count, place)
+    held <= text.len() && tag_step::good_in(&text[..held], starts, ends, hashes, at.count, at.place)
 }
 
 // Whether no answer is ready.
@@ -139,36 +123,32 @@ fn waits_for<'a>(
         && (waits_on tag.now at.html at.checks (keys_lent starts.now ends.now hashes.now at.count) phase
         || leb (length tag.now) (look_of tag.now at.html at.checks (keys_lent starts.now ends.now hashes.now at.count) at.place))) }
 {
-    if finished {
-        return false;
-    }
-    if tag_phase::waits(tag, starts, ends, hashes, at, phase) {
-        return true;
-    }
-    tag_look::look_in(tag, starts, ends, hashes, at) >= tag.len()
+    !finished
+        && (tag_phase::waits(tag, starts, ends, hashes, at, phase)
+            || tag_look::look_in(tag, starts, ends, hashes, at) >= tag.len())
 }
 
 // The reader with another iterator, so many bytes held, and another phase.
 fn moved(r: Reader, st: IterState, held: usize, phase: Phase) -> Reader
     ensures { result ≡ moved r st held phase }
 {
-    let text = r.text;
-    let place = st.place;
-    let starts = st.starts;
-    let ends = st.ends;
-    let hashes = st.hashes;
+    let IterState {
+        place,
+        starts,
+        ends,
+        hashes,
+        count,
+        ..
+    } = st;
     Reader {
-        text: text,
-        held: held,
-        finished: r.finished,
-        phase: phase,
-        place: place,
-        html: r.html,
-        check_duplicates: r.check_duplicates,
-        starts: starts,
-        ends: ends,
-        hashes: hashes,
-        count: st.count,
+        held,
+        phase,
+        place,
+        starts,
+        ends,
+        hashes,
+        count,
+        ..r
     }
 }
 
@@ -189,13 +169,14 @@ fn emptied(r: Reader) -> Reader
 }
 
 // After an answer the scan for the next one begins anew; after the end nothing is looked for.
+#[tactic(auto, unfolding(tag_step::specs::Run::is_end))]
 fn phase_after(answer: Answer, phase: Phase) -> Phase
     ensures { result ≡ phase_after answer phase }
 {
-    if let Answer::End = answer {
-        return phase;
+    match answer {
+        None => phase,
+        Some(_) => Phase::Begin,
     }
-    Phase::Begin
 }
 
 // The iterator's answer over what is held.
@@ -203,28 +184,33 @@ fn answered(r: Reader) -> Take
     requires { r.held ≤ length r.text }
     ensures { result ≡ answered_of (held_of r) (iterator_of r) r }
 {
-    let text = r.text;
-    let held = r.held;
-    let place = r.place;
-    let starts = r.starts;
-    let ends = r.ends;
-    let hashes = r.hashes;
+    let Reader {
+        text,
+        held,
+        phase,
+        place,
+        html,
+        check_duplicates,
+        starts,
+        ends,
+        hashes,
+        count,
+        ..
+    } = r;
     let state = IterState {
-        place: place,
-        html: r.html,
-        check_duplicates: r.check_duplicates,
-        starts: starts,
-        ends: ends,
-        hashes: hashes,
-        count: r.count,
+        place,
+        html,
+        check_duplicates,
+        starts,
+        ends,
+        hashes,
+        count,
     };
     let step = state.next(&text[..held]);
     let answer = step.answer;
-    let left = step.state;
-    let phase = r.phase;
     Take {
-        taken: Taken::Gives(answer),
-        reader: moved(r, left, held, phase_after(answer, phase)),
+        taken: Ok(Some(answer)),
+        reader: moved(r, step.state, held, phase_after(answer, phase)),
     }
 }
 
@@ -232,36 +218,29 @@ fn answered(r: Reader) -> Take
 pub fn take(r: Reader) -> Take
     ensures { numbered_take result ≡ numbered_take (take_of r) }
 {
-    let text = r.text;
-    let starts = r.starts;
-    let ends = r.ends;
-    let hashes = r.hashes;
-    let held = r.held;
-    let place = r.place;
-    let phase = r.phase;
     let at = Standing {
-        place: place,
+        place: r.place,
         html: r.html,
         checks: r.check_duplicates,
         count: r.count,
     };
-    if !good_in(&text, held, &starts, &ends, &hashes, at) {
+    if !good_in(&r.text, r.held, &r.starts, &r.ends, &r.hashes, at) {
         return Take {
-            taken: Taken::Gives(Answer::BadState),
+            taken: Ok(Some(Some(Err(AttrError::BadState)))),
             reader: emptied(r),
         };
     }
     if waits_for(
-        &text[..held],
-        &starts,
-        &ends,
-        &hashes,
+        &r.text[..r.held],
+        &r.starts,
+        &r.ends,
+        &r.hashes,
         at,
         r.finished,
-        phase,
+        r.phase,
     ) {
         return Take {
-            taken: Taken::More,
+            taken: Ok(None),
             reader: r,
         };
     }

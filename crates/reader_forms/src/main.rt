@@ -9,30 +9,57 @@
 // holds the answers against those of `attrs`.
 #![tactic(auto)]
 
+ghost use Rattle.std.specs.Prelude.{◌≡◌};
+ghost use Rattle.tag_pieces.specs.Reader.{piece_of, finish_of, take_of};
+
 use std::io;
 use std::io::Read;
-use tag_pieces::{Feeding, HOLD, Reader, Take, Taken};
+use tag_pieces::{Feeding, HOLD, Reader, Take};
 use tag_step::Answer;
 
-fn piece(in_place: bool, r: Reader, piece: &[u8]) -> Feeding {
-    if in_place {
-        return replay_pieces::piece(r, piece);
-    }
-    reader::piece(r, piece)
+// A form of the reader: what each of its calls answers, and the reader then.
+trait Form {
+    fn piece(r: Reader, piece: &[u8]) -> Feeding
+        ensures { result ≡ piece_of piece.now r };
+
+    fn finish(r: Reader) -> Feeding
+        ensures { result ≡ finish_of r };
+
+    fn take(r: Reader) -> Take
+        ensures { result ≡ take_of r };
 }
 
-fn finish(in_place: bool, r: Reader) -> Feeding {
-    if in_place {
-        return replay_pieces::finish(r);
+struct ByValue;
+
+#[tactic(auto, using(reader::proofs::Numbers::feeding_apart, reader::proofs::Numbers::take_apart))]
+impl Form for ByValue {
+    fn piece(r: Reader, piece: &[u8]) -> Feeding {
+        reader::piece(r, piece)
     }
-    reader::finish(r)
+
+    fn finish(r: Reader) -> Feeding {
+        reader::finish(r)
+    }
+
+    fn take(r: Reader) -> Take {
+        reader::take(r)
+    }
 }
 
-fn take(in_place: bool, r: Reader) -> Take {
-    if in_place {
-        return replay_pieces::take(r);
+struct InPlace;
+
+impl Form for InPlace {
+    fn piece(r: Reader, piece: &[u8]) -> Feeding {
+        replay_pieces::piece(r, piece)
     }
-    reader::take(r)
+
+    fn finish(r: Reader) -> Feeding {
+        replay_pieces::finish(r)
+    }
+
+    fn take(r: Reader) -> Take {
+        replay_pieces::take(r)
+    }
 }
 
 // An answer's line, behind the number of bytes that are held.
@@ -49,62 +76,52 @@ fn show(rt: &impl Print, held: usize, answer: Answer) -> io::Result<()> {
 }
 
 // Shows the answers that are ready, and gives back the reader then. There is one for each byte that is held at most.
-fn show_ready(rt: &impl Print, in_place: bool, r: Reader) -> io::Result<Reader> {
+fn show_ready<F: Form>(rt: &impl Print, r: Reader) -> io::Result<Reader> {
     let mut left = r;
-    let mut i = 0;
-    while i < HOLD {
-        let x = take(in_place, left);
-        let after = x.reader;
-        left = after;
+    for _ in 0..HOLD {
+        let x = F::take(left);
+        left = x.reader;
         let taken = x.taken;
-        let Taken::Gives(answer) = taken else {
+        let Ok(Some(answer)) = taken else {
             return Ok(left);
         };
-        if let Answer::End = answer {
+        if answer.is_none() {
             return Ok(left);
         }
         show(rt, left.held, answer)?;
-        i += 1;
     }
     Ok(left)
 }
 
 // The number of what became of a piece or a finish.
 fn say(rt: &impl Print, what: &str, x: Feeding) -> io::Result<()> {
-    let number = x.fed.number();
+    let number = tag_pieces::fed_number(x.fed);
     println!(rt; "{what}{number}")
 }
 
 // One after another: a piece of each byte, the finish, a second one, a piece after it, and then a count of held bytes that no
 // reader has.
-fn run(rt: &impl Print, tag: &[u8], in_place: bool, html: bool, checks: bool) -> io::Result<()> {
+fn run<F: Form>(rt: &impl Print, tag: &[u8], html: bool, checks: bool) -> io::Result<()> {
     let mut r = reader::with_checks(reader::new(0, html), checks);
-    let mut i = 0;
-    while i < tag.len() {
-        let next = i + 1;
-        let x = piece(in_place, r, &tag[i..next]);
-        let after = x.reader;
-        r = show_ready(rt, in_place, after)?;
-        i = next;
+    for byte in tag.chunks(1) {
+        r = show_ready::<F>(rt, F::piece(r, byte).reader)?;
     }
-    let x = finish(in_place, r);
-    let after = x.reader;
-    r = show_ready(rt, in_place, after)?;
-    say(rt, "finish ", finish(in_place, r))?;
-    say(rt, "piece ", piece(in_place, r, tag))?;
+    r = show_ready::<F>(rt, F::finish(r).reader)?;
+    say(rt, "finish ", F::finish(r))?;
+    say(rt, "piece ", F::piece(r, tag))?;
     r.held = HOLD + 1;
-    show_ready(rt, in_place, r)?;
+    show_ready::<F>(rt, r)?;
     Ok(())
 }
 
 // In both modes, and with checks off.
-fn run_form(rt: &impl Print, tag: &[u8], in_place: bool) -> io::Result<()> {
+fn run_form<F: Form>(rt: &impl Print, tag: &[u8]) -> io::Result<()> {
     println!(rt; "XML")?;
-    run(rt, tag, in_place, false, true)?;
+    run::<F>(rt, tag, false, true)?;
     println!(rt; "HTML")?;
-    run(rt, tag, in_place, true, true)?;
+    run::<F>(rt, tag, true, true)?;
     println!(rt; "HTML, checks off")?;
-    run(rt, tag, in_place, true, false)
+    run::<F>(rt, tag, true, false)
 }
 
 fn main(rt: HostRuntime) -> io::Result<()> {
@@ -112,7 +129,7 @@ fn main(rt: HostRuntime) -> io::Result<()> {
     let count = io::copy(&mut rt.stdin().take(4096), &mut &mut buffer[..])?;
     let n = buffer.len().min(count as usize);
     println!(rt; "by value")?;
-    run_form(&rt, &buffer[..n], false)?;
+    run_form::<ByValue>(&rt, &buffer[..n])?;
     println!(rt; "in place")?;
-    run_form(&rt, &buffer[..n], true)
+    run_form::<InPlace>(&rt, &buffer[..n])
 }

@@ -9,10 +9,11 @@ ghost use Rattle.std.specs.Prelude.{◌≡◌};
 ghost use Rattle.tag_pieces.specs.Reader.{feeding, took, piece_of, finish_of, take_of};
 ghost use Rattle.reader.specs.Numbers.{numbered_feeding, numbered_take};
 
-use tag_pieces::{Fed, Reader, Taken};
+use tag_pieces::{FeedError, MoreKeys, Reader};
+use tag_step::Answer;
 
 // One piece more, of no bytes or more.
-pub fn piece(r: &mut Reader, piece: &[u8]) -> Fed
+pub fn piece(r: &mut Reader, piece: &[u8]) -> Result<(), FeedError>
     ensures { numbered_feeding (feeding result r.new) ≡ numbered_feeding (piece_of piece.now r.old) }
 {
     let x = reader::piece(*r, piece);
@@ -21,7 +22,7 @@ pub fn piece(r: &mut Reader, piece: &[u8]) -> Fed
 }
 
 // The end of the tag: what is held is all of it.
-pub fn finish(r: &mut Reader) -> Fed
+pub fn finish(r: &mut Reader) -> Result<(), FeedError>
     ensures { numbered_feeding (feeding result r.new) ≡ numbered_feeding (finish_of r.old) }
 {
     let x = reader::finish(*r);
@@ -30,7 +31,7 @@ pub fn finish(r: &mut Reader) -> Fed
 }
 
 // One answer, or that none is ready.
-pub fn take(r: &mut Reader) -> Taken
+pub fn take(r: &mut Reader) -> Result<Option<Answer>, MoreKeys>
     ensures { numbered_take (took result r.new) ≡ numbered_take (take_of r.old) }
 {
     let x = reader::take(*r);

@@ -9,26 +9,27 @@ use lib.ListN.{length, take, drop, length-drop}
 use borrow.Author.Tests.{lt-ltb, le-ltb}
 use Rattle.scan.specs.First.{pick}
 use Rattle.scan.proofs.Lists.{to_end}
-use Rattle.replay.specs.declared.RecordStep.{RecordStep}
-use Rattle.replay.specs.declared.RecordStep.TheVariants.{Agrees, Differs, Cut}
+use Rattle.std.proofs.Common.{Ok, Err}
+use Rattle.replay.specs.declared.Agreed.{Agreed}
+use Rattle.replay.specs.declared.RecordError.TheVariants.{Differs, Cut}
 use Rattle.replay.specs.declared.Replayed.{Replayed}
-use Rattle.replay.specs.Run.{step_size, step_names, step_bindings, begun_of, after_of, RunFits, replay_from, replay_on}
+use Rattle.replay.specs.Run.{RecordStep, agrees, differs, cut, step_size, step_names, step_bindings, begun_of, after_of, RunFits, replay_from, replay_on}
 
 -- A record that agrees has bytes, they are all there, and it counts no more names or bindings than it has bytes.
 pub record Passes (step : RecordStep) (most : ℕ) : Type 0 where
-  pub some : {size names bindings : ℕ} → step ≡ Agrees size names bindings → 1 ≤ size
+  pub some : {r : Agreed} → step ≡ Ok r → 1 ≤ r.size
   pub there : step_size step ≤ most
   pub names : step_names step ≤ step_size step
   pub bindings : step_bindings step ≤ step_size step
 
 module _ {most : ℕ} where
-  pub passes_agrees : {size names bindings : ℕ} → 1 ≤ size → size ≤ most → names ≤ size → bindings ≤ size → Passes (Agrees size names bindings) most
-  passes_agrees {size} a b n m = record { some = λ {size = k} e. (let z : size ≡ k = cc in omega arith); there = b; names = n; bindings = m }
+  pub passes_agrees : {size names bindings : ℕ} → 1 ≤ size → size ≤ most → names ≤ size → bindings ≤ size → Passes (agrees size names bindings) most
+  passes_agrees {size} a b n m = record { some = λ {r} e. (let z : size ≡ r.size = ap step_size e in omega arith); there = b; names = n; bindings = m }
 
-  pub passes_differs : Passes Differs most
+  pub passes_differs : Passes differs most
   passes_differs = record { some = λ e. (let z : ◌≡◌ {A = ℕ} 0 1 = cc in absurd (omega arith)); there = omega arith; names = omega arith; bindings = omega arith }
 
-  pub passes_cut : Passes Cut most
+  pub passes_cut : Passes cut most
   passes_cut = record { some = λ e. (let z : ◌≡◌ {A = ℕ} 0 1 = cc in absurd (omega arith)); there = omega arith; names = omega arith; bindings = omega arith }
 
   pub passes_pick : (t : Bool) {x y : RecordStep} → (t ≡ true → Passes x most) → (t ≡ false → Passes y most) → Passes (pick t x y) most
@@ -44,21 +45,21 @@ pub record Bounded (run : Replayed) (len : ℕ) : Type 0 where
 
 bounded_after : (run : Replayed) (len : ℕ) → Bounded run len → (step : RecordStep) → Passes step (len - run.at) → Bounded (after_of run step len) len
 unfolding after_of
-bounded_after run len b (Agrees size names bindings) p =
+bounded_after run len b (Ok r) p =
     let o = p.some refl in
     record { records = omega (arith, o, b.records); names = omega (arith, b.names, p.names); bindings = omega (arith, b.bindings, p.bindings); place = omega (arith, b.place, p.there) }
-bounded_after run len b Differs p =
+bounded_after run len b (Err Differs) p =
     record { records = omega (arith, b.records, b.place); names = omega (arith, b.names, b.place); bindings = omega (arith, b.bindings, b.place); place = omega arith }
-bounded_after run len b Cut p =
+bounded_after run len b (Err Cut) p =
     record { records = omega (arith, b.records, b.place); names = omega (arith, b.names, b.place); bindings = omega (arith, b.bindings, b.place); place = omega arith }
 
 nearer : (run : Replayed) (len : ℕ) → run.at < len → (step : RecordStep) → Passes step (len - run.at) → len - (after_of run step len).at < len - run.at
 unfolding after_of
-nearer run len a (Agrees size names bindings) p =
+nearer run len a (Ok r) p =
     let o = p.some refl in
     omega (arith, o, a, p.there)
-nearer run len a Differs p = omega arith
-nearer run len a Cut p = omega arith
+nearer run len a (Err Differs) p = omega arith
+nearer run len a (Err Cut) p = omega arith
 
 module _ {A : Type 0} (read : A → List ℕ → RecordStep) (leaves : A → List ℕ → A) (s : List ℕ) where
   ended : (turns : ℕ) (x : A) (run : Replayed) → length s ≤ run.at → replay_from read leaves turns s x run ≡ run
@@ -69,9 +70,9 @@ module _ {A : Type 0} (read : A → List ℕ → RecordStep) (leaves : A → Lis
   -- the turns that are left are those of the records not yet counted; of a run that has stopped they do not matter
   turns_after : (run : Replayed) (y : A) (step : RecordStep) → replay_from read leaves (length s - (run.records + 1)) s y (after_of run step (length s)) ≡ replay_from read leaves (length s - (after_of run step (length s)).records) s y (after_of run step (length s))
   unfolding after_of
-  turns_after run y (Agrees size names bindings) = refl
-  turns_after run y Differs = ended _ y _ (omega arith) ∙ sym (ended _ y _ (omega arith))
-  turns_after run y Cut = ended _ y _ (omega arith) ∙ sym (ended _ y _ (omega arith))
+  turns_after run y (Ok r) = refl
+  turns_after run y (Err Differs) = ended _ y _ (omega arith) ∙ sym (ended _ y _ (omega arith))
+  turns_after run y (Err Cut) = ended _ y _ (omega arith) ∙ sym (ended _ y _ (omega arith))
 
   goes_on : (x : A) (run : Replayed) → run.records ≤ run.at → run.at < length s → replay_from read leaves (length s - run.records) s x run ≡ replay_from read leaves (length s - (run.records + 1)) s (leaves x (drop run.at s)) (after_of run (read x (drop run.at s)) (length s))
   unfolding replay_from

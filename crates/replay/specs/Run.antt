@@ -1,31 +1,49 @@
 -- What a replay counts: the records from the start on whose answers are ours, up to the first that differs or is cut short.
 -- `read` says what stands at the front of some bytes, `leaves` what it leaves for the records behind it.
-use Rattle.std.specs.Prelude.{ℕ, zero, suc, ◌+◌, ◌≤◌, List, length, drop, ltb}
+use Rattle.std.specs.Prelude.{ℕ, zero, suc, ◌+◌, ◌≤◌, List, length, drop, ltb, Result, Ok, Err}
 use Rattle.scan.specs.First.{pick}
-use Rattle.replay.specs.declared.RecordStep.{RecordStep}
-use Rattle.replay.specs.declared.RecordStep.TheVariants.{Agrees, Differs, Cut}
-use Rattle.replay.specs.declared.RunEnd.{RunEnd}
-use Rattle.replay.specs.declared.RunEnd.TheVariants.{All, Differs as DiffersAt, Cut as CutAt}
+use Rattle.replay.specs.declared.Agreed.{Agreed}
+use Rattle.replay.specs.declared.RecordError.{RecordError}
+use Rattle.replay.specs.declared.RecordError.TheVariants.{Differs, Cut}
+use Rattle.replay.specs.declared.RunError.{RunError}
+use Rattle.replay.specs.declared.RunError.TheVariants.{Differs as DiffersAt, Cut as CutAt}
 use Rattle.replay.specs.declared.Replayed.{Replayed}
+
+-- What stands at the front of some bytes: a record that agrees, one that differs, or none that is whole.
+abbrev pub RecordStep : Type 0
+RecordStep = Result Agreed RecordError
+
+abbrev pub agrees : (size names bindings : ℕ) → RecordStep
+agrees size names bindings = Ok (record { size = size; names = names; bindings = bindings })
+
+abbrev pub differs : RecordStep
+differs = Err Differs
+
+abbrev pub cut : RecordStep
+cut = Err Cut
+
+-- How a run ends.
+abbrev pub RunEnd : Type 0
+RunEnd = Result (Unit {0}) RunError
 
 -- the bytes that a step passes, and the names and bindings in it
 abbrev pub step_size : RecordStep → ℕ
-step_size (Agrees size names bindings) = size
-step_size Differs = 0
-step_size Cut = 0
+step_size (Ok r) = r.size
+step_size (Err Differs) = 0
+step_size (Err Cut) = 0
 
 abbrev pub step_names : RecordStep → ℕ
-step_names (Agrees size names bindings) = names
-step_names Differs = 0
-step_names Cut = 0
+step_names (Ok r) = r.names
+step_names (Err Differs) = 0
+step_names (Err Cut) = 0
 
 abbrev pub step_bindings : RecordStep → ℕ
-step_bindings (Agrees size names bindings) = bindings
-step_bindings Differs = 0
-step_bindings Cut = 0
+step_bindings (Ok r) = r.bindings
+step_bindings (Err Differs) = 0
+step_bindings (Err Cut) = 0
 
 abbrev pub begun_of : Replayed
-begun_of = record { at = 0; records = 0; names = 0; bindings = 0; end = All }
+begun_of = record { at = 0; records = 0; names = 0; bindings = 0; end = Ok tt }
 
 -- the same counts, and nothing left to read
 abbrev pub stopped_of : Replayed → (len : ℕ) → RunEnd → Replayed
@@ -34,16 +52,16 @@ stopped_of run len end =
 
 -- A record that agrees is counted, and the run goes on behind it; any other ends it where it stands.
 unfoldable pub after_of : Replayed → RecordStep → (len : ℕ) → Replayed
-after_of run (Agrees size names bindings) len =
+after_of run (Ok r) len =
     record {
-      at = run.at + size;
+      at = run.at + r.size;
       records = run.records + 1;
-      names = run.names + names;
-      bindings = run.bindings + bindings;
-      end = All;
+      names = run.names + r.names;
+      bindings = run.bindings + r.bindings;
+      end = Ok tt;
     }
-after_of run Differs len = stopped_of run len (DiffersAt run.at)
-after_of run Cut len = stopped_of run len (CutAt run.at)
+after_of run (Err Differs) len = stopped_of run len (Err (DiffersAt run.at))
+after_of run (Err Cut) len = stopped_of run len (Err (CutAt run.at))
 
 -- place and counts stay within the length of all records
 pub record RunFits (run : Replayed) (step : RecordStep) (len : ℕ) : Type 0 where

@@ -1,5 +1,5 @@
 // What the programs have in common that hold answers against recorded ones: the numbers of a record, lower byte first, the
-// run through the records, and the lines that say how it went. Each program has its own records, and says by a `RecordStep` what
+// run through the records, and the lines that say how it went. Each program has its own records, and says by a `Result` what
 // it makes of one. The definitions are in specs/Numbers.antt and specs/Run.antt.
 #![tactic(auto)]
 
@@ -8,21 +8,26 @@ ghost use Rattle.scan.specs.Bytes.{same_bytes};
 ghost use Rattle.replay.specs.Numbers.{byte_at, two_at, twos_of};
 ghost use Rattle.replay.specs.Run.{begun_of, stopped_of, RunFits, after_of};
 
-// What stands at the front of some bytes.
+// A whole record whose answers are ours: how many bytes it has, and what it adds to two counts.
 #[derive(Clone, Copy)]
-pub enum RecordStep {
-    // a whole record of that many bytes, whose answers are ours; then what it adds to two counts, of names and of bindings
-    Agrees(usize, usize, usize),
-    // one whose answers are not
+pub struct Agreed {
+    pub size: usize,
+    pub names: usize,
+    pub bindings: usize,
+}
+
+// Why what stands at the front of some bytes is no such record.
+#[derive(Clone, Copy)]
+pub enum RecordError {
+    // Its answers are not ours.
     Differs,
-    // too few bytes for one, or none that can be read
+    // Too few bytes for one, or none that can be read.
     Cut,
 }
 
-// Where a run stops.
+// Why a run stops before the last byte, and where.
 #[derive(Clone, Copy)]
-pub enum RunEnd {
-    All,
+pub enum RunError {
     Differs(usize),
     Cut(usize),
 }
@@ -34,19 +39,13 @@ pub struct Replayed {
     pub records: usize,
     pub names: usize,
     pub bindings: usize,
-    pub end: RunEnd,
-}
-
-fn byte_wide(b: u8) -> u16
-    ensures { result ≡ b }
-{
-    b as u16
+    pub end: Result<(), RunError>,
 }
 
 pub fn wide(n: u16) -> usize
     ensures { result ≡ n }
 {
-    n as usize
+    usize::from(n)
 }
 
 // The number of two bytes at a place.
@@ -54,7 +53,7 @@ pub fn two_at(s: &[u8], at: usize) -> u16
     requires { at + 1 < length s.now }
     ensures { result ≡ two_at s.now at }
 {
-    byte_wide(s[at]) + 256 * byte_wide(s[at + 1])
+    u16::from(s[at]) + 256 * u16::from(s[at + 1])
 }
 
 // The same as a length or an index.
@@ -78,7 +77,7 @@ pub fn is_byte(s: &[u8], at: usize, n: usize) -> bool
     requires { at < length s.now }
     ensures { result ≡ eqb (byte_at s.now at) n }
 {
-    wide(byte_wide(s[at])) == n
+    usize::from(s[at]) == n
 }
 
 // Whether numbers are those that are recorded at the front of some bytes.
@@ -86,12 +85,10 @@ pub fn same_numbers(numbers: &[usize], recorded: &[u8]) -> bool
     requires { 2 * length numbers.now ≤ length recorded.now }
     ensures { result ≡ same_bytes numbers.now (twos_of (length numbers.now) recorded.now) }
 {
-    let mut i = 0;
-    while i < numbers.len() {
-        if numbers[i] != number_at(recorded, 2 * i) {
+    for (i, n) in numbers.iter().enumerate() {
+        if *n != number_at(recorded, 2 * i) {
             return false;
         }
-        i += 1;
     }
     true
 }
@@ -105,12 +102,12 @@ pub fn begun() -> Replayed
         records: 0,
         names: 0,
         bindings: 0,
-        end: RunEnd::All,
+        end: Ok(()),
     }
 }
 
 // The same counts, and nothing left to read.
-fn stopped(run: Replayed, len: usize, end: RunEnd) -> Replayed
+fn stopped(run: Replayed, len: usize, end: Result<(), RunError>) -> Replayed
     ensures { result ≡ stopped_of run len end }
 {
     Replayed {
@@ -118,25 +115,25 @@ fn stopped(run: Replayed, len: usize, end: RunEnd) -> Replayed
         records: run.records,
         names: run.names,
         bindings: run.bindings,
-        end: end,
+        end,
     }
 }
 
 // The run after one more record of `len` bytes in all.
 #[tactic(auto, unfolding(crate::specs::Run::after_of))]
-pub fn after(run: Replayed, step: RecordStep, len: usize) -> Replayed
+pub fn after(run: Replayed, step: Result<Agreed, RecordError>, len: usize) -> Replayed
     requires { RunFits run step len }
     ensures { result ≡ after_of run step len }
 {
     match step {
-        RecordStep::Agrees(size, names, bindings) => Replayed {
-            at: run.at + size,
+        Ok(record) => Replayed {
+            at: run.at + record.size,
             records: run.records + 1,
-            names: run.names + names,
-            bindings: run.bindings + bindings,
-            end: RunEnd::All,
+            names: run.names + record.names,
+            bindings: run.bindings + record.bindings,
+            end: Ok(()),
         },
-        RecordStep::Differs => stopped(run, len, RunEnd::Differs(run.at)),
-        RecordStep::Cut => stopped(run, len, RunEnd::Cut(run.at)),
+        Err(RecordError::Differs) => stopped(run, len, Err(RunError::Differs(run.at))),
+        Err(RecordError::Cut) => stopped(run, len, Err(RunError::Cut(run.at))),
     }
 }

@@ -11,10 +11,10 @@
 
 ghost use Rattle.std.specs.Prelude.{◌≤◌, ◌≡◌, length};
 
-use replay::{RecordStep, Replayed, RunEnd};
-use scope_lookup::Namespace;
+use replay::{Agreed, RecordError, Replayed, RunError};
+use scope_lookup::{LookupError, Namespace};
 use scope_nil::HasNil;
-use scope_table::NamespaceResolver;
+use scope_table::{FormError, NamespaceResolver};
 use std::io;
 use std::io::Read;
 use tag_step::{IterState, Place};
@@ -30,29 +30,28 @@ struct Reply {
 
 fn says(code: usize, first: usize, second: usize, third: usize) -> Reply {
     Reply {
-        code: code,
-        first: first,
-        second: second,
-        third: third,
+        code,
+        first,
+        second,
+        third,
     }
 }
 
 // 0 for a namespace, with the bounds of the URI, and for none; 11 with those of the prefix.
-fn namespace_reply(told: Namespace) -> Reply {
+fn namespace_reply(told: Result<Option<Namespace>, LookupError>) -> Reply {
     match told {
-        Namespace::Bound(from, to) => says(0, from, to, 0),
-        Namespace::Unbound => says(0, 0, 0, 0),
-        Namespace::UnknownPrefix(from, to) => says(11, from, to, 0),
-        Namespace::BadResolver => says(20, 0, 0, 0),
-        Namespace::WrongLength => says(99, 0, 0, 0),
+        Ok(Some(found)) => says(0, found.start, found.end, 0),
+        Ok(None) => says(0, 0, 0, 0),
+        Err(LookupError::UnknownPrefix(from, to)) => says(11, from, to, 0),
+        Err(LookupError::Form(FormError::BadResolver)) => says(20, 0, 0, 0),
+        Err(LookupError::Form(FormError::WrongLength)) => says(99, 0, 0, 0),
     }
 }
 
 // The code, the place that is left, by its kind and its position, and how many keys are recorded.
 fn nil_reply(found: HasNil) -> Reply {
-    let answer = found.answer;
     let state = found.state;
-    let code = answer.number();
+    let code = scope_nil::nil_number(found.answer);
     let count = state.count;
     let place = state.place;
     match place {
@@ -63,40 +62,59 @@ fn nil_reply(found: HasNil) -> Reply {
     }
 }
 
-// The resolver within a tag.
-fn scope_of(carried: bool, tag: &[u8]) -> NamespaceResolver {
-    let fresh = NamespaceResolver::fresh();
-    if carried {
-        let own = replay_forms::push(fresh, tag, 0);
-        return own.resolver;
-    }
-    let pushed = scope_push::push(fresh, tag, 0);
-    pushed.resolver
+// A form of the calls.
+trait Form {
+    // The resolver within a tag.
+    fn scope_of(tag: &[u8]) -> NamespaceResolver;
+
+    // An iterator as it opens.
+    fn opened(tag: &[u8], at: usize, html: bool, checks: bool) -> IterState;
+
+    // A search for `nil`.
+    fn has_nil(state: IterState, tag: &[u8], r: NamespaceResolver) -> HasNil;
 }
 
-// An iterator as it opens.
-fn opened_as(carried: bool, tag: &[u8], at: usize, html: bool, checks: bool) -> IterState {
-    if !carried {
-        return IterState::new(at, html).with_checks(checks);
+struct ByValue;
+
+impl Form for ByValue {
+    fn scope_of(tag: &[u8]) -> NamespaceResolver {
+        let pushed = scope_push::push(NamespaceResolver::fresh(), tag, 0);
+        pushed.resolver
     }
-    if html {
-        return replay_forms::opened_html(tag, at, checks);
+
+    fn opened(tag: &[u8], at: usize, html: bool, checks: bool) -> IterState {
+        IterState::new(at, html).with_checks(checks)
     }
-    replay_forms::opened(tag, at, checks)
+
+    fn has_nil(state: IterState, tag: &[u8], r: NamespaceResolver) -> HasNil {
+        scope_nil::has_nil(state, tag, r)
+    }
 }
 
-// A search by value, or by the iterator that carries its tag.
-fn found_nil(carried: bool, state: IterState, tag: &[u8], r: NamespaceResolver) -> HasNil {
-    if carried {
-        return replay_forms::has_nil(state, tag, r);
+// On a resolver that is lent, and by the iterator that carries its tag.
+struct OverReferences;
+
+impl Form for OverReferences {
+    fn scope_of(tag: &[u8]) -> NamespaceResolver {
+        let pushed = replay_forms::push(NamespaceResolver::fresh(), tag, 0);
+        pushed.resolver
     }
-    scope_nil::has_nil(state, tag, r)
+
+    fn opened(tag: &[u8], at: usize, html: bool, checks: bool) -> IterState {
+        if html {
+            return replay_forms::opened_html(tag, at, checks);
+        }
+        replay_forms::opened(tag, at, checks)
+    }
+
+    fn has_nil(state: IterState, tag: &[u8], r: NamespaceResolver) -> HasNil {
+        replay_forms::has_nil(state, tag, r)
+    }
 }
 
 // The questions by their numbers: 0 a name, with the default wanted or not; 1 the same of a prefix, if there is one; any
 // other a search for `nil`, in HTML mode or not, with checks or without.
-fn reply_to(
-    carried: bool,
+fn reply_to<F: Form>(
     question: u8,
     one: bool,
     other: bool,
@@ -104,7 +122,7 @@ fn reply_to(
     scope: &[u8],
     text: &[u8],
 ) -> Reply {
-    let r = scope_of(carried, scope);
+    let r = F::scope_of(scope);
     if question == 0 {
         let found = scope_lookup::resolve(r, text, one);
         return namespace_reply(scope_lookup::namespace_of(found));
@@ -113,44 +131,36 @@ fn reply_to(
         let found = scope_lookup::resolve_prefix(r, text, other, one);
         return namespace_reply(scope_lookup::namespace_of(found));
     }
-    let state = opened_as(carried, text, at, one, other);
-    nil_reply(found_nil(carried, state, text, r))
+    nil_reply(F::has_nil(F::opened(text, at, one, other), text, r))
 }
 
 // Whether a reply is the one that is recorded at the front of some bytes.
 fn same_reply(x: Reply, recorded: &[u8]) -> bool
     requires { 8 ≤ length recorded.now }
 {
-    if !replay::is_two(recorded, 0, x.code) {
-        return false;
-    }
-    if !replay::is_two(recorded, 2, x.first) {
-        return false;
-    }
-    if !replay::is_two(recorded, 4, x.second) {
-        return false;
-    }
-    replay::is_two(recorded, 6, x.third)
+    replay::is_two(recorded, 0, x.code)
+        && replay::is_two(recorded, 2, x.first)
+        && replay::is_two(recorded, 4, x.second)
+        && replay::is_two(recorded, 6, x.third)
 }
 
 // The record at the front.
-fn record_of(carried: bool, rest: &[u8]) -> RecordStep {
+fn record_of<F: Form>(rest: &[u8]) -> Result<Agreed, RecordError> {
     if rest.len() < 17 {
-        return RecordStep::Cut;
+        return Err(RecordError::Cut);
     }
     let n = replay::number_at(rest, 5);
     if rest.len() - 17 < n {
-        return RecordStep::Cut;
+        return Err(RecordError::Cut);
     }
     let m = replay::number_at(rest, 7 + n);
     if rest.len() - 17 - n < m {
-        return RecordStep::Cut;
+        return Err(RecordError::Cut);
     }
     let to = 7 + n;
     let from = 9 + n;
     let end = from + m;
-    let x = reply_to(
-        carried,
+    let x = reply_to::<F>(
         rest[0],
         rest[1] == 1,
         rest[2] == 1,
@@ -159,45 +169,39 @@ fn record_of(carried: bool, rest: &[u8]) -> RecordStep {
         &rest[from..end],
     );
     if same_reply(x, &rest[end..]) {
-        return RecordStep::Agrees(8 + end, 0, 0);
+        return Ok(Agreed {
+            size: 8 + end,
+            names: 0,
+            bindings: 0,
+        });
     }
-    RecordStep::Differs
-}
-
-fn replayed(at: usize, records: usize, end: RunEnd) -> Replayed {
-    Replayed {
-        at: at,
-        records: records,
-        names: 0,
-        bindings: 0,
-        end: end,
-    }
+    Err(RecordError::Differs)
 }
 
 // How many records agree before the first that does not, and where that one is. A size of none, or past the last byte, is
 // no whole record.
-fn replay(records: &[u8], carried: bool) -> Replayed {
-    let mut at = 0;
-    let mut count = 0;
-    while at < records.len() {
+fn replay<F: Form>(records: &[u8]) -> Replayed {
+    let mut run = replay::begun();
+    // a `while`, as records have any size: no range gives the places
+    while run.at < records.len() {
+        let at = run.at;
         let left = records.len() - at;
-        let step = record_of(carried, &records[at..]);
-        match step {
-            RecordStep::Agrees(size, _, _) => {
-                if size == 0 {
-                    return replayed(at, count, RunEnd::Cut(at));
-                }
-                if left < size {
-                    return replayed(at, count, RunEnd::Cut(at));
-                }
-                at += size;
-                count += 1;
+        match record_of::<F>(&records[at..]) {
+            Ok(record) if 0 < record.size && record.size <= left => {
+                run.at += record.size;
+                run.records += 1;
             }
-            RecordStep::Differs => return replayed(at, count, RunEnd::Differs(at)),
-            RecordStep::Cut => return replayed(at, count, RunEnd::Cut(at)),
+            Ok(_) | Err(RecordError::Cut) => {
+                run.end = Err(RunError::Cut(at));
+                return run;
+            }
+            Err(RecordError::Differs) => {
+                run.end = Err(RunError::Differs(at));
+                return run;
+            }
         }
     }
-    replayed(at, count, RunEnd::All)
+    run
 }
 
 // Room for the records. The contract gives the length, which lending the array as a slice needs.
@@ -213,11 +217,13 @@ fn say(rt: &impl Print, words: &str, n: usize) -> io::Result<()> {
 }
 
 // The end of a line of counts: all agreed, or where the run stopped.
-fn say_end(rt: &impl Print, end: RunEnd) -> io::Result<()> {
+fn say_end(rt: &impl Print, end: Result<(), RunError>) -> io::Result<()> {
     match end {
-        RunEnd::All => println!(rt; ", all as recorded"),
-        RunEnd::Differs(at) => { println!(rt; " as recorded, and one that is not at byte {at}") }
-        RunEnd::Cut(at) => println!(rt; " as recorded, and no whole record at byte {at}"),
+        Ok(()) => println!(rt; ", all as recorded"),
+        Err(RunError::Differs(at)) => println!(rt;
+            " as recorded, and one that is not at byte {at}"
+        ),
+        Err(RunError::Cut(at)) => println!(rt; " as recorded, and no whole record at byte {at}"),
     }
 }
 
@@ -233,8 +239,7 @@ fn too_long(rt: &impl Print, from: &mut impl Read) -> io::Result<bool> {
 
 fn show(rt: &impl Print, run: Replayed) -> io::Result<()> {
     say(rt, "questions ", run.records)?;
-    let end = run.end;
-    say_end(rt, end)
+    say_end(rt, run.end)
 }
 
 fn main(rt: HostRuntime) -> io::Result<()> {
@@ -244,6 +249,6 @@ fn main(rt: HostRuntime) -> io::Result<()> {
     if too_long(&rt, &mut rt.stdin())? {
         return Ok(());
     }
-    show(&rt, replay(&buffer[..n], false))?;
-    show(&rt, replay(&buffer[..n], true))
+    show(&rt, replay::<ByValue>(&buffer[..n]))?;
+    show(&rt, replay::<OverReferences>(&buffer[..n]))
 }

@@ -18,47 +18,51 @@ use scope_table::{Changed, NamespaceResolver};
 use tag_carried::Attributes;
 use tag_step::{IterState, Step};
 
+#[tactic(auto, using(scope_table::proofs::Answers::change_apart))]
 pub fn set_level(mut r: NamespaceResolver, level: u16) -> Changed
     ensures { result ≡ level_of level r }
 {
     let answer = scope_in_place::set_level(&mut r, level);
     Changed {
-        answer: answer,
+        answer,
         resolver: r,
     }
 }
 
+#[tactic(auto, using(scope_table::proofs::Answers::change_apart))]
 pub fn pop(mut r: NamespaceResolver) -> Changed
     ensures { result ≡ pop_of r }
 {
     let answer = scope_in_place::pop(&mut r);
     Changed {
-        answer: answer,
+        answer,
         resolver: r,
     }
 }
 
+#[tactic(auto, using(scope_table::proofs::Answers::change_apart))]
 pub fn push(mut r: NamespaceResolver, tag: &[u8], from: usize) -> Changed
     ensures { result ≡ push_of tag.now from r }
 {
     let answer = scope_in_place::push(&mut r, tag, from);
     Changed {
-        answer: answer,
+        answer,
         resolver: r,
     }
 }
 
-pub fn add<'a>(
+#[tactic(auto, using(scope_table::proofs::Answers::change_apart))]
+pub fn add(
     mut r: NamespaceResolver,
-    declares: PrefixDeclaration,
-    prefix: &'a [u8],
-    value: &'a [u8],
+    declares: Option<PrefixDeclaration>,
+    prefix: &[u8],
+    value: &[u8],
 ) -> Changed
     ensures { result ≡ add_of declares prefix.now value.now r }
 {
     let answer = scope_in_place::add(&mut r, declares, prefix, value);
     Changed {
-        answer: answer,
+        answer,
         resolver: r,
     }
 }
@@ -92,13 +96,10 @@ pub fn opened_html(tag: &[u8], pos: usize, checks: bool) -> IterState
 pub fn next(state: IterState, tag: &[u8]) -> Step
     ensures { result ≡ next_of tag.now state }
 {
-    let mut it = Attributes {
-        tag: tag,
-        state: state,
-    };
+    let mut it = Attributes { tag, state };
     let answer = it.next();
     Step {
-        answer: answer,
+        answer,
         state: it.state,
     }
 }
@@ -107,13 +108,10 @@ pub fn next(state: IterState, tag: &[u8]) -> Step
 pub fn has_nil(state: IterState, tag: &[u8], resolver: NamespaceResolver) -> HasNil
     ensures { result ≡ has_nil_of tag.now state resolver }
 {
-    let mut it = Attributes {
-        tag: tag,
-        state: state,
-    };
+    let mut it = Attributes { tag, state };
     let answer = scope_nil_carried::has_nil(&mut it, &resolver);
     HasNil {
-        answer: answer,
+        answer,
         state: it.state,
     }
 }
@@ -126,7 +124,7 @@ pub fn bindings(r: NamespaceResolver, cursor: usize) -> Listing
     it.cursor = cursor;
     let answer = it.next();
     Listing {
-        answer: answer,
+        answer,
         place: it.cursor,
     }
 }
@@ -139,7 +137,7 @@ pub fn bindings_of(r: NamespaceResolver, level: u16, cursor: usize) -> Listing
     it.cursor = cursor;
     let answer = it.next();
     Listing {
-        answer: answer,
+        answer,
         place: it.cursor,
     }
 }

@@ -11,7 +11,7 @@ use Rattle.scan.specs.First.{pick}
 use Rattle.scan.specs.Bytes.{part}
 use Rattle.scan.proofs.Lists.{to_end}
 use Rattle.name.specs.Declares.{declares_of, declares_number, declared_prefix}
-use Rattle.replay.specs.declared.RecordStep.TheVariants.{Agrees, Differs, Cut}
+use Rattle.replay.specs.Run.{agrees, differs, cut}
 use Rattle.replay.specs.Numbers.{two_at}
 use Rattle.replay.proofs.Turns.{Passes, passes_agrees, passes_differs, passes_cut, passes_pick}
 use Rattle.replay_names.specs.Replay.{start_number, name_agrees, name_record_of}
@@ -32,15 +32,15 @@ module _ (name : List ℕ) {n : ℕ} (e : n ≡ declares_number (declares_of nam
 
 -- the record at the front
 module _ (rest : List ℕ) where
-  pub too_few : length rest < 9 → Cut ≡ name_record_of rest
+  pub too_few : length rest < 9 → cut ≡ name_record_of rest
   unfolding name_record_of
   too_few h = rw (lt-ltb (length rest) 9 h)
 
-  pub name_cut : {n : ℕ} → 9 ≤ length rest → n ≡ two_at rest 0 → length rest - 9 < n → Cut ≡ name_record_of rest
+  pub name_cut : {n : ℕ} → 9 ≤ length rest → n ≡ two_at rest 0 → length rest - 9 < n → cut ≡ name_record_of rest
   unfolding name_record_of
   name_cut {n} a e b = rw (le-ltb (length rest) 9 a, ← e, lt-ltb (length rest - 9) n b)
 
-  pub whole : {n : ℕ} {t : Bool} → 9 ≤ length rest → n ≡ two_at rest 0 → n ≤ length rest - 9 → t ≡ name_agrees (take (2 + n - 2) (drop 2 rest)) (take (length rest - (2 + n)) (drop (2 + n) rest)) → pick t (Agrees (9 + n) 0 0) Differs ≡ name_record_of rest
+  pub whole : {n : ℕ} {t : Bool} → 9 ≤ length rest → n ≡ two_at rest 0 → n ≤ length rest - 9 → t ≡ name_agrees (take (2 + n - 2) (drop 2 rest)) (take (length rest - (2 + n)) (drop (2 + n) rest)) → pick t (agrees (9 + n) 0 0) differs ≡ name_record_of rest
   unfolding name_record_of part
   whole {n} {t} a e b h =
       let g = rw (to_end (2 + n) rest) at h in

@@ -1,22 +1,18 @@
 -- What a record of a name is, and when its answers are those of the definitions of `name`.
-use Rattle.std.specs.Prelude.{ℕ, ◌+◌, ◌-◌, Bool, ◌&&◌, List, length, drop, eqb, ltb}
+use Rattle.std.specs.Prelude.{ℕ, ◌+◌, ◌-◌, Bool, ◌&&◌, List, length, drop, eqb, ltb, Option, Some, None}
 use Rattle.scan.specs.First.{pick}
 use Rattle.scan.specs.Bytes.{part}
 use Rattle.name.specs.Split.{colon_of, prefix_of}
 use Rattle.name.specs.Reserved.{is_xml, is_xmlns}
 use Rattle.name.specs.Declares.{declares_of, declares_number, declared_prefix}
-use Rattle.name.specs.declared.Colon.{Colon}
-use Rattle.name.specs.declared.Colon.TheVariants.{At, Nowhere}
-use Rattle.replay.specs.declared.RecordStep.{RecordStep}
-use Rattle.replay.specs.declared.RecordStep.TheVariants.{Agrees, Differs, Cut}
 use Rattle.replay.specs.declared.Replayed.{Replayed}
 use Rattle.replay.specs.Numbers.{byte_at, two_at}
-use Rattle.replay.specs.Run.{replay_each}
+use Rattle.replay.specs.Run.{replay_each, RecordStep, agrees, differs, cut}
 
 -- the index of the first colon, 65,535 for none
-abbrev pub number_of_colon : Colon → ℕ
-number_of_colon (At at) = at
-number_of_colon Nowhere = 65535
+abbrev pub number_of_colon : Option ℕ → ℕ
+number_of_colon (Some at) = at
+number_of_colon None = 65535
 
 abbrev pub colon_number : List ℕ → ℕ
 colon_number name = number_of_colon (colon_of name)
@@ -44,9 +40,9 @@ name_agrees name recorded =
 -- the record at the front: the name's length in two bytes, the name, seven bytes of answers
 unfoldable pub name_record_of : List ℕ → RecordStep
 name_record_of rest =
-    pick (ltb (length rest) 9) Cut
-    (pick (ltb (length rest - 9) (two_at rest 0)) Cut
-    (pick (name_agrees (part rest 2 (2 + two_at rest 0)) (drop (2 + two_at rest 0) rest)) (Agrees (9 + two_at rest 0) 0 0) Differs))
+    pick (ltb (length rest) 9) cut
+    (pick (ltb (length rest - 9) (two_at rest 0)) cut
+    (pick (name_agrees (part rest 2 (2 + two_at rest 0)) (drop (2 + two_at rest 0) rest)) (agrees (9 + two_at rest 0) 0 0) differs))
 
 unfoldable pub names_replayed : List ℕ → Replayed
 names_replayed s = replay_each name_record_of s

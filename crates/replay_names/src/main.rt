@@ -12,85 +12,77 @@
 ghost use Rattle.std.specs.Prelude.{◌≡◌, ◌≤◌, length};
 ghost use Rattle.replay_names.specs.Replay.{colon_number, start_number, xml_number, xmlns_number, name_agrees, name_record_of, names_replayed};
 
-use name::Colon;
-use replay::{RecordStep, Replayed, RunEnd};
+use replay::{Agreed, RecordError, Replayed, RunError};
 use std::io;
 use std::io::Read;
 
 fn colon_number(name: &[u8]) -> usize
     ensures { result ≡ colon_number name.now }
 {
-    let colon = name::index(name);
-    match colon {
-        Colon::At(at) => at,
-        Colon::Nowhere => 65535,
-    }
+    name::index(name).unwrap_or(65535)
 }
 
 // Where the declared prefix starts: as many bytes from the end as it has.
 fn start_number(name: &[u8]) -> usize
     ensures { result ≡ start_number name.now }
 {
-    if name::as_namespace_binding(name).number() != 2 {
+    if name::declares_number(name::as_namespace_binding(name)) != 2 {
         return 0;
     }
     let declared = name::declared_prefix(name);
     name.len() - declared.len()
 }
 
+#[tactic(auto, unfolding(crate::specs::Replay::xml_number))]
 fn xml_number(name: &[u8]) -> usize
     ensures { result ≡ xml_number name.now }
 {
-    if name::is_xml(name::prefix(name)) {
-        return 1;
-    }
-    0
+    usize::from(name::is_xml(name::prefix(name)))
 }
 
+#[tactic(auto, unfolding(crate::specs::Replay::xmlns_number))]
 fn xmlns_number(name: &[u8]) -> usize
     ensures { result ≡ xmlns_number name.now }
 {
-    if name::is_xmlns(name::prefix(name)) {
-        return 1;
-    }
-    0
+    usize::from(name::is_xmlns(name::prefix(name)))
 }
 
 // Whether the answers to a name are the recorded ones, which stand at the front of `recorded`.
+#[tactic(auto, unfolding(crate::specs::Replay::name_agrees))]
 fn agrees(name: &[u8], recorded: &[u8]) -> bool
     requires { 7 ≤ length recorded.now }
     ensures { result ≡ name_agrees name.now recorded.now }
 {
-    if !replay::is_two(recorded, 0, colon_number(name)) {
-        return false;
-    }
-    if !replay::is_byte(recorded, 2, name::as_namespace_binding(name).number()) {
-        return false;
-    }
-    if !replay::is_two(recorded, 3, start_number(name)) {
-        return false;
-    }
-    if !replay::is_byte(recorded, 5, xml_number(name)) {
-        return false;
-    }
-    replay::is_byte(recorded, 6, xmlns_number(name))
+    replay::is_two(recorded, 0, colon_number(name))
+        && replay::is_byte(
+            recorded,
+            2,
+            name::declares_number(name::as_namespace_binding(name)),
+        )
+        && replay::is_two(recorded, 3, start_number(name))
+        && replay::is_byte(recorded, 5, xml_number(name))
+        && replay::is_byte(recorded, 6, xmlns_number(name))
 }
 
-fn record_of(rest: &[u8]) -> RecordStep
+fn record_of(rest: &[u8]) -> Result<Agreed, RecordError>
     ensures { result ≡ name_record_of rest.now }
 {
     if rest.len() < 9 {
-        return RecordStep::Cut;
+        return Err(RecordError::Cut);
     }
     let n = replay::number_at(rest, 0);
     if rest.len() - 9 < n {
-        return RecordStep::Cut;
+        return Err(RecordError::Cut);
     }
     let to = 2 + n;
     if agrees(&rest[2..to], &rest[to..]) {
-        return RecordStep::Agrees(9 + n, 0, 0);
+        return Ok(Agreed {
+            size: 9 + n,
+            names: 0,
+            bindings: 0,
+        });
     }
-    RecordStep::Differs
+    Err(RecordError::Differs)
 }
 
 // How many records agree before the first that does not, and where that one is.
@@ -98,6 +90,7 @@ fn replay(records: &[u8]) -> Replayed
     ensures { result ≡ names_replayed records.now }
 {
     let mut run = replay::begun();
+    // a `while`, as records have any size: no range gives the places
     while run.at < records.len() {
         let at = run.at;
         let step = record_of(&records[at..]);
@@ -119,13 +112,13 @@ fn say(rt: &impl Print, words: &str, n: usize) -> io::Result<()> {
 }
 
 // The end of a line of counts: all agreed, or where the run stopped. `which` says what a record is.
-fn say_end(rt: &impl Print, end: RunEnd, which: &str) -> io::Result<()> {
+fn say_end(rt: &impl Print, end: Result<(), RunError>, which: &str) -> io::Result<()> {
     match end {
-        RunEnd::All => println!(rt; ", all as recorded"),
-        RunEnd::Differs(at) => {
+        Ok(()) => println!(rt; ", all as recorded"),
+        Err(RunError::Differs(at)) => {
             println!(rt; " as recorded, and {which} that is not at byte {at}")
         }
-        RunEnd::Cut(at) => println!(rt; " as recorded, and no whole record at byte {at}"),
+        Err(RunError::Cut(at)) => println!(rt; " as recorded, and no whole record at byte {at}"),
     }
 }
 
@@ -141,8 +134,7 @@ fn too_long(rt: &impl Print, from: &mut impl Read) -> io::Result<bool> {
 
 fn show(rt: &impl Print, run: Replayed) -> io::Result<()> {
     say(rt, "names ", run.records)?;
-    let end = run.end;
-    say_end(rt, end, "one")
+    say_end(rt, run.end, "one")
 }
 
 fn main(rt: HostRuntime) -> io::Result<()> {

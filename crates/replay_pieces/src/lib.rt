@@ -8,32 +8,26 @@ ghost use Rattle.tag_pieces.specs.Reader.{piece_of, finish_of, take_of};
 
 use tag_pieces::{Feeding, Reader, Take};
 
+#[tactic(auto, using(reader::proofs::Numbers::feeding_apart))]
 pub fn piece(mut r: Reader, piece: &[u8]) -> Feeding
     ensures { result ≡ piece_of piece.now r }
 {
     let fed = reader_in_place::piece(&mut r, piece);
-    Feeding {
-        fed: fed,
-        reader: r,
-    }
+    Feeding { fed, reader: r }
 }
 
+#[tactic(auto, using(reader::proofs::Numbers::feeding_apart))]
 pub fn finish(mut r: Reader) -> Feeding
     ensures { result ≡ finish_of r }
 {
     let fed = reader_in_place::finish(&mut r);
-    Feeding {
-        fed: fed,
-        reader: r,
-    }
+    Feeding { fed, reader: r }
 }
 
+#[tactic(auto, using(reader::proofs::Numbers::take_apart))]
 pub fn take(mut r: Reader) -> Take
     ensures { result ≡ take_of r }
 {
     let taken = reader_in_place::take(&mut r);
-    Take {
-        taken: taken,
-        reader: r,
-    }
+    Take { taken, reader: r }
 }

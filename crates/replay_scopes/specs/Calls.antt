@@ -1,19 +1,15 @@
 -- What a recorded call answers and leaves: the resolver's own definitions, their answers in the numbers of a record.
-use Rattle.std.specs.Prelude.{ℕ, true, false, List, [], ◌∷◌, get_or}
+use Rattle.std.specs.Prelude.{ℕ, true, false, List, [], ◌∷◌, get_or, Some, None, Ok, Err}
 use Rattle.name.specs.declared.PrefixDeclaration.TheVariants.{Default, Named}
 use Rattle.scope_table.specs.Table.{fresh_of}
-use Rattle.scope_table.specs.Answer.{change_numbers}
+use Rattle.scope_table.specs.Answer.{change_numbers, NamespaceResult}
 use Rattle.scope_table.specs.declared.NamespaceResolver.{NamespaceResolver}
 use Rattle.scope_table.specs.declared.Changed.{Changed}
-use Rattle.scope_table.specs.declared.NamespaceResult.{NamespaceResult}
 use Rattle.scope_change.specs.Change.{level_of}
 use Rattle.scope_declare.specs.Declare.{add_of, pop_of, limited_of}
 use Rattle.scope_push.specs.Push.{push_of}
-use Rattle.scope_lookup.specs.Lookup.{resolved_numbers, resolve_of}
-use Rattle.scope_lookup.specs.declared.Resolved.{Resolved}
-use Rattle.scope_listing.specs.Listing.{listed_numbers, bindings_of, bindings_at_of}
-use Rattle.scope_listing.specs.declared.Listed.{Listed}
-use Rattle.scope_listing.specs.declared.Listed.TheVariants as Shown
+use Rattle.scope_lookup.specs.Lookup.{Resolved, resolved_numbers, resolve_of}
+use Rattle.scope_listing.specs.Listing.{Listed, listed_numbers, bindings_of, bindings_at_of}
 use Rattle.scope_listing.specs.declared.Listing.{Listing}
 use Rattle.replay_scopes.specs.declared.RecordedCall.{RecordedCall}
 use Rattle.replay_scopes.specs.declared.RecordedCall.TheVariants.{Fresh, AddDefault, AddNamed, Push, Pop, SetLevel, SetLimit, ResolveAttribute, ResolveElement, Bindings, BindingsOf}
@@ -42,10 +38,9 @@ lookup_said found = said_numbers (get_or (resolved_numbers found) 0 0) (get_or (
 
 -- the next place of a listing, which is recorded where a binding is shown
 unfoldable pub place_after : Listed → (place : ℕ) → ℕ
-place_after (Shown.Binding a m e) place = place
-place_after Shown.End place = 0
-place_after Shown.BadResolver place = 0
-place_after Shown.WrongLength place = 0
+place_after (Ok (Some b)) place = place
+place_after (Ok None) place = 0
+place_after (Err why) place = 0
 
 -- A listing: 0 for its end, 1 for a default, 2 for a named one, with the bounds of prefix and value and the next place;
 -- 20.
@@ -62,10 +57,9 @@ listing_said a place =
 
 -- how many bindings an answer shows
 unfoldable pub shown_in : Listed → ℕ
-shown_in (Shown.Binding a m e) = 1
-shown_in Shown.End = 0
-shown_in Shown.BadResolver = 0
-shown_in Shown.WrongLength = 0
+shown_in (Ok (Some b)) = 1
+shown_in (Ok None) = 0
+shown_in (Err why) = 0
 
 abbrev pub called_with : Said → (names bindings : ℕ) → NamespaceResolver → Called
 called_with s names bindings x = record { said = s; names = names; bindings = bindings; resolver = x }
@@ -87,8 +81,8 @@ called_listing x l = called_with (listing_said l.answer l.place) 0 (shown_in l.a
 -- Each call on a resolver, with two numbers and two texts.
 unfoldable pub called_of : NamespaceResolver → RecordedCall → (a b : ℕ) (first second : List ℕ) → Called
 called_of x Fresh a b s t = reset_to fresh_of
-called_of x AddDefault a b s t = changed_by (add_of Default s t x)
-called_of x AddNamed a b s t = changed_by (add_of Named s t x)
+called_of x AddDefault a b s t = changed_by (add_of (Some Default) s t x)
+called_of x AddNamed a b s t = changed_by (add_of (Some Named) s t x)
 called_of x Push a b s t = changed_by (push_of s a x)
 called_of x Pop a b s t = changed_by (pop_of x)
 called_of x SetLevel a b s t = changed_by (level_of a x)

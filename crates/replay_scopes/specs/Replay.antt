@@ -1,19 +1,16 @@
 -- What a record of a call is, and when its answer is that of the resolver's definitions.
-use Rattle.std.specs.Prelude.{ℕ, ◌+◌, ◌-◌, Bool, ◌&&◌, List, length, drop, get_or, eqb, ltb}
+use Rattle.std.specs.Prelude.{ℕ, ◌+◌, ◌-◌, Bool, ◌&&◌, List, length, drop, get_or, eqb, ltb, Option, Some, None}
 use Rattle.scan.specs.First.{pick}
 use Rattle.scan.specs.Bytes.{part}
-use Rattle.replay.specs.declared.RecordStep.{RecordStep}
-use Rattle.replay.specs.declared.RecordStep.TheVariants as At
 use Rattle.replay.specs.declared.Replayed.{Replayed}
 use Rattle.replay.specs.Numbers.{two_at}
-use Rattle.replay.specs.Run.{replay_on}
+use Rattle.replay.specs.Run.{RecordStep, agrees, differs, cut, replay_on}
 use Rattle.scope_table.specs.Table.{fresh_of}
 use Rattle.scope_table.specs.declared.NamespaceResolver.{NamespaceResolver}
 use Rattle.replay_scopes.specs.Calls.{recorded_call_of, called_of}
 use Rattle.replay_scopes.specs.declared.Said.{Said}
 use Rattle.replay_scopes.specs.declared.Called.{Called}
 use Rattle.replay_scopes.specs.declared.Lengths.{Lengths}
-use Rattle.replay_scopes.specs.declared.Lengths.TheVariants.{Whole, Cut}
 use Rattle.replay_scopes.specs.declared.Turn.{Turn}
 
 -- An answer is the recorded one: its code and all five values.
@@ -31,14 +28,17 @@ unfoldable pub same_left : (used count level : ℕ) → (recorded : List ℕ) �
 same_left used count level recorded =
     eqb (two_at recorded 12) used && (eqb (two_at recorded 14) count && eqb (two_at recorded 16) level)
 
+abbrev pub whole : (first second : ℕ) → Option Lengths
+whole first second = Some (record { first = first; second = second })
+
 -- A record: a byte for the call, two numbers, a text, a text, and nine numbers; 27 bytes and both texts.
-unfoldable pub lengths_of : List ℕ → Lengths
+unfoldable pub lengths_of : List ℕ → Option Lengths
 lengths_of rest =
-    pick (ltb (length rest) 27) Cut
-    (pick (ltb 10 (get_or rest 0 0)) Cut
-    (pick (ltb (length rest - 27) (two_at rest 5)) Cut
-    (pick (ltb (length rest - 27 - two_at rest 5) (two_at rest (7 + two_at rest 5))) Cut
-    (Whole (two_at rest 5) (two_at rest (7 + two_at rest 5))))))
+    pick (ltb (length rest) 27) None
+    (pick (ltb 10 (get_or rest 0 0)) None
+    (pick (ltb (length rest - 27) (two_at rest 5)) None
+    (pick (ltb (length rest - 27 - two_at rest 5) (two_at rest (7 + two_at rest 5))) None
+    (whole (two_at rest 5) (two_at rest (7 + two_at rest 5))))))
 
 abbrev pub turn : RecordStep → NamespaceResolver → Turn
 turn s x = record { step = s; resolver = x }
@@ -49,7 +49,7 @@ held_to m size recorded =
     turn
     (pick (same_said m.said recorded
     && same_left m.resolver.head.used m.resolver.head.count m.resolver.head.level recorded)
-    (At.Agrees size m.names m.bindings) At.Differs)
+    (agrees size m.names m.bindings) differs)
     m.resolver
 
 -- the call of a whole record, whose texts have n and m bytes
@@ -60,9 +60,9 @@ turn_of x rest n m =
     (part rest (9 + n) (9 + n + m)))
     (18 + (9 + n + m)) (drop (9 + n + m) rest)
 
-unfoldable pub turn_at : Lengths → NamespaceResolver → (rest : List ℕ) → Turn
-turn_at (Whole n m) x rest = turn_of x rest n m
-turn_at Cut x rest = turn At.Cut x
+unfoldable pub turn_at : Option Lengths → NamespaceResolver → (rest : List ℕ) → Turn
+turn_at (Some l) x rest = turn_of x rest l.first l.second
+turn_at None x rest = turn cut x
 
 -- the record at the front
 unfoldable pub call_record_of : NamespaceResolver → (rest : List ℕ) → Turn

@@ -10,15 +10,20 @@
 // value, and each on a resolver in a local that is lent to it. What is counted is `calls_replayed`, specs/Replay.antt.
 #![tactic(auto)]
 
-ghost use Rattle.std.specs.Prelude.{◌≡◌, ◌+◌, ◌≤◌, length};
+ghost use Rattle.std.specs.Prelude.{true, false, ◌≡◌, ◌+◌, ◌≤◌, length};
+ghost use Rattle.scope_change.specs.Change.{level_of};
+ghost use Rattle.scope_declare.specs.Declare.{add_of, pop_of, limited_of};
+ghost use Rattle.scope_push.specs.Push.{push_of};
+ghost use Rattle.scope_lookup.specs.Lookup.{resolve_of};
+ghost use Rattle.scope_listing.specs.Listing.{bindings_of, bindings_at_of};
 ghost use Rattle.replay_scopes.specs.Calls.{said_numbers, change_said, lookup_said, place_after, listing_said, shown_in, changed_by, reset_to, called_lookup, called_listing, recorded_call_of, called_of};
 ghost use Rattle.replay_scopes.specs.Replay.{same_said, same_left, lengths_of, held_to, turn_of, call_record_of, calls_replayed};
 
 use name::PrefixDeclaration;
-use replay::{RecordStep, Replayed, RunEnd};
-use scope_listing::{Listed, Listing};
-use scope_lookup::Resolved;
-use scope_table::{Changed, NamespaceResolver, NamespaceResult};
+use replay::{Agreed, RecordError, Replayed, RunError};
+use scope_listing::{Binding, Listing};
+use scope_lookup::ResolveResult;
+use scope_table::{Changed, FormError, NamespaceError, NamespaceResolver};
 use std::io;
 use std::io::Read;
 
@@ -67,20 +72,22 @@ struct Called {
     resolver: NamespaceResolver,
 }
 
-// The lengths of a record's two texts, where the whole record is there.
+// The lengths of a record's two texts.
 #[derive(Clone, Copy)]
-enum Lengths {
-    Whole(usize, usize),
-    Cut,
+struct Lengths {
+    first: usize,
+    second: usize,
 }
 
 // What stands at the front of some bytes, and the resolver after it.
 #[derive(Clone, Copy)]
 struct Turn {
-    step: RecordStep,
+    step: Result<Agreed, RecordError>,
     resolver: NamespaceResolver,
 }
 
+// The call of a number. It can't fail, so it is no TryFrom: the definition gives each number a call.
+#[tactic(auto, unfolding(crate::specs::Calls::recorded_call_of))]
 fn call_of(number: u8) -> RecordedCall
     ensures { result ≡ recorded_call_of number }
 {
@@ -104,9 +111,9 @@ fn says(code: usize, first: usize, second: usize) -> Said
     ensures { result ≡ said_numbers code first second }
 {
     Said {
-        code: code,
-        first: first,
-        second: second,
+        code,
+        first,
+        second,
         third: 0,
         fourth: 0,
         fifth: 0,
@@ -114,7 +121,7 @@ fn says(code: usize, first: usize, second: usize) -> Said
 }
 
 // A changing call: 0, or a refusal's number and its values.
-fn change_said(answer: NamespaceResult) -> Said
+fn change_said(answer: Result<(), NamespaceError>) -> Said
     ensures { result ≡ change_said answer }
 {
     let told = scope_table::change_numbers(answer);
@@ -122,7 +129,7 @@ fn change_said(answer: NamespaceResult) -> Said
 }
 
 // A lookup: 0 unbound, 1 bound with the bounds of the URI in the resolver's text, 2 unknown with those of the prefix.
-fn lookup_said(found: Resolved) -> Said
+fn lookup_said(found: Result<ResolveResult, FormError>) -> Said
     ensures { result ≡ lookup_said found }
 {
     let told = scope_lookup::resolved_numbers(found);
@@ -130,20 +137,19 @@ fn lookup_said(found: Resolved) -> Said
 }
 
 // The place to go on from, which is recorded where a binding is shown.
-fn place_after(answer: Listed, place: usize) -> usize
+#[tactic(auto, unfolding(crate::specs::Calls::place_after))]
+fn place_after(answer: Result<Option<Binding>, FormError>, place: usize) -> usize
     ensures { result ≡ place_after answer place }
 {
     match answer {
-        Listed::Binding(_, _, _) => place,
-        Listed::End => 0,
-        Listed::BadResolver => 0,
-        Listed::WrongLength => 0,
+        Ok(Some(_)) => place,
+        Ok(None) | Err(_) => 0,
     }
 }
 
 // A listing: 0 for its end; 1 for a default, which has no prefix, and 2 for a named one, with the bounds of prefix and
 // value, and the place to go on from.
-fn listing_said(answer: Listed, place: usize) -> Said
+fn listing_said(answer: Result<Option<Binding>, FormError>, place: usize) -> Said
     ensures { result ≡ listing_said answer place }
 {
     let told = scope_listing::listed_numbers(answer);
@@ -158,18 +164,18 @@ fn listing_said(answer: Listed, place: usize) -> Said
     }
 }
 
-fn shown_in(answer: Listed) -> usize
+#[tactic(auto, unfolding(crate::specs::Calls::shown_in))]
+fn shown_in(answer: Result<Option<Binding>, FormError>) -> usize
     ensures { result ≡ shown_in answer }
 {
     match answer {
-        Listed::Binding(_, _, _) => 1,
-        Listed::End => 0,
-        Listed::BadResolver => 0,
-        Listed::WrongLength => 0,
+        Ok(Some(_)) => 1,
+        Ok(None) | Err(_) => 0,
     }
 }
 
 // A changing call that may refuse.
+#[tactic(auto, unfolding(crate::specs::Calls::changed_by))]
 fn changed_by(c: Changed) -> Called
     ensures { result ≡ changed_by c }
 {
@@ -184,6 +190,7 @@ fn changed_by(c: Changed) -> Called
 }
 
 // One that never does: a fresh resolver, or another limit.
+#[tactic(auto, unfolding(crate::specs::Calls::reset_to))]
 fn reset_to(r: NamespaceResolver) -> Called
     ensures { result ≡ reset_to r }
 {
@@ -196,7 +203,7 @@ fn reset_to(r: NamespaceResolver) -> Called
 }
 
 // A question, which leaves the resolver as it was.
-fn looked_up(r: NamespaceResolver, found: Resolved) -> Called
+fn looked_up(r: NamespaceResolver, found: Result<ResolveResult, FormError>) -> Called
     ensures { result ≡ called_lookup r found }
 {
     Called {
@@ -207,6 +214,7 @@ fn looked_up(r: NamespaceResolver, found: Resolved) -> Called
     }
 }
 
+#[tactic(auto, unfolding(crate::specs::Calls::called_listing))]
 fn listed_as(r: NamespaceResolver, listing: Listing) -> Called
     ensures { result ≡ called_listing r listing }
 {
@@ -219,196 +227,250 @@ fn listed_as(r: NamespaceResolver, listing: Listing) -> Called
     }
 }
 
+// A form of the resolver's calls: what each answers, and the resolver that it leaves.
+trait Form {
+    fn add(
+        r: NamespaceResolver,
+        declares: Option<PrefixDeclaration>,
+        prefix: &[u8],
+        value: &[u8],
+    ) -> Changed
+        ensures { result ≡ add_of declares prefix.now value.now r };
+
+    fn push(r: NamespaceResolver, tag: &[u8], from: usize) -> Changed
+        ensures { result ≡ push_of tag.now from r };
+
+    fn pop(r: NamespaceResolver) -> Changed
+        ensures { result ≡ pop_of r };
+
+    fn set_level(r: NamespaceResolver, level: u16) -> Changed
+        ensures { result ≡ level_of level r };
+
+    fn set_limit(r: NamespaceResolver, limit: usize) -> NamespaceResolver
+        ensures { result ≡ limited_of limit r };
+
+    fn resolve_attribute(r: NamespaceResolver, name: &[u8]) -> Result<ResolveResult, FormError>
+        ensures { result ≡ resolve_of name.now false r };
+
+    fn resolve_element(r: NamespaceResolver, name: &[u8]) -> Result<ResolveResult, FormError>
+        ensures { result ≡ resolve_of name.now true r };
+
+    fn bindings(r: NamespaceResolver, place: usize) -> Listing
+        ensures { result ≡ bindings_of place r };
+
+    fn bindings_of(r: NamespaceResolver, level: u16, place: usize) -> Listing
+        ensures { result ≡ bindings_at_of level place r };
+}
+
+// Each call by value.
+struct ByValue;
+
+#[tactic(auto, using(scope_table::proofs::Answers::change_apart, scope_lookup::proofs::Numbers::resolved_apart, scope_listing::proofs::Numbers::listing_apart))]
+impl Form for ByValue {
+    fn add(
+        r: NamespaceResolver,
+        declares: Option<PrefixDeclaration>,
+        prefix: &[u8],
+        value: &[u8],
+    ) -> Changed {
+        scope_declare::add(r, declares, prefix, value)
+    }
+
+    fn push(r: NamespaceResolver, tag: &[u8], from: usize) -> Changed {
+        scope_push::push(r, tag, from)
+    }
+
+    fn pop(r: NamespaceResolver) -> Changed {
+        scope_declare::pop(r)
+    }
+
+    fn set_level(r: NamespaceResolver, level: u16) -> Changed {
+        scope_declare::set_level(r, level)
+    }
+
+    fn set_limit(r: NamespaceResolver, limit: usize) -> NamespaceResolver {
+        scope_declare::set_max_namespace_bindings(r, limit)
+    }
+
+    fn resolve_attribute(r: NamespaceResolver, name: &[u8]) -> Result<ResolveResult, FormError> {
+        scope_lookup::resolve_attribute(r, name)
+    }
+
+    fn resolve_element(r: NamespaceResolver, name: &[u8]) -> Result<ResolveResult, FormError> {
+        scope_lookup::resolve_element(r, name)
+    }
+
+    fn bindings(r: NamespaceResolver, place: usize) -> Listing {
+        scope_listing::bindings(r, place)
+    }
+
+    fn bindings_of(r: NamespaceResolver, level: u16, place: usize) -> Listing {
+        scope_listing::bindings_of(r, level, place)
+    }
+}
+
+// Those that change a resolver on one that is lent to them, names by the call that is told whether a default is wanted, and
+// listings by the iterators that carry the resolver.
+struct Lent;
+
+#[tactic(auto, using(scope_lookup::proofs::Numbers::resolved_apart))]
+impl Form for Lent {
+    fn add(
+        r: NamespaceResolver,
+        declares: Option<PrefixDeclaration>,
+        prefix: &[u8],
+        value: &[u8],
+    ) -> Changed {
+        replay_forms::add(r, declares, prefix, value)
+    }
+
+    fn push(r: NamespaceResolver, tag: &[u8], from: usize) -> Changed {
+        replay_forms::push(r, tag, from)
+    }
+
+    fn pop(r: NamespaceResolver) -> Changed {
+        replay_forms::pop(r)
+    }
+
+    fn set_level(r: NamespaceResolver, level: u16) -> Changed {
+        replay_forms::set_level(r, level)
+    }
+
+    fn set_limit(r: NamespaceResolver, limit: usize) -> NamespaceResolver {
+        replay_forms::set_max_namespace_bindings(r, limit)
+    }
+
+    fn resolve_attribute(r: NamespaceResolver, name: &[u8]) -> Result<ResolveResult, FormError> {
+        scope_lookup::resolve(r, name, false)
+    }
+
+    fn resolve_element(r: NamespaceResolver, name: &[u8]) -> Result<ResolveResult, FormError> {
+        scope_lookup::resolve(r, name, true)
+    }
+
+    fn bindings(r: NamespaceResolver, place: usize) -> Listing {
+        replay_forms::bindings(r, place)
+    }
+
+    fn bindings_of(r: NamespaceResolver, level: u16, place: usize) -> Listing {
+        replay_forms::bindings_of(r, level, place)
+    }
+}
+
 // A call is made, with its numbers and texts.
-fn make<'a>(
+fn make<F: Form>(
     r: NamespaceResolver,
     call: RecordedCall,
     a: u16,
     b: u16,
-    first: &'a [u8],
-    second: &'a [u8],
+    first: &[u8],
+    second: &[u8],
 ) -> Called
     ensures { result ≡ called_of r call a b first.now second.now }
 {
     match call {
         RecordedCall::Fresh => reset_to(NamespaceResolver::fresh()),
-        RecordedCall::AddDefault => changed_by(scope_declare::add(
+        RecordedCall::AddDefault => {
+            changed_by(F::add(r, Some(PrefixDeclaration::Default), first, second))
+        }
+        RecordedCall::AddNamed => changed_by(F::add(
             r,
-            PrefixDeclaration::Default,
+            Some(PrefixDeclaration::Named),
             first,
             second,
         )),
-        RecordedCall::AddNamed => changed_by(scope_declare::add(
-            r,
-            PrefixDeclaration::Named,
-            first,
-            second,
-        )),
-        RecordedCall::Push => changed_by(scope_push::push(r, first, replay::wide(a))),
-        RecordedCall::Pop => changed_by(scope_declare::pop(r)),
-        RecordedCall::SetLevel => changed_by(scope_declare::set_level(r, a)),
-        RecordedCall::SetLimit => reset_to(scope_declare::set_max_namespace_bindings(
-            r,
-            replay::wide(a),
-        )),
-        RecordedCall::ResolveAttribute => looked_up(r, scope_lookup::resolve_attribute(r, first)),
-        RecordedCall::ResolveElement => looked_up(r, scope_lookup::resolve_element(r, first)),
-        RecordedCall::Bindings => listed_as(r, scope_listing::bindings(r, replay::wide(a))),
-        RecordedCall::BindingsOf => listed_as(r, scope_listing::bindings_of(r, b, replay::wide(a))),
+        RecordedCall::Push => changed_by(F::push(r, first, replay::wide(a))),
+        RecordedCall::Pop => changed_by(F::pop(r)),
+        RecordedCall::SetLevel => changed_by(F::set_level(r, a)),
+        RecordedCall::SetLimit => reset_to(F::set_limit(r, replay::wide(a))),
+        RecordedCall::ResolveAttribute => looked_up(r, F::resolve_attribute(r, first)),
+        RecordedCall::ResolveElement => looked_up(r, F::resolve_element(r, first)),
+        RecordedCall::Bindings => listed_as(r, F::bindings(r, replay::wide(a))),
+        RecordedCall::BindingsOf => listed_as(r, F::bindings_of(r, b, replay::wide(a))),
     }
-}
-
-// The same calls in the other form: those that change a resolver on one that is lent to them, names by the call that is
-// told whether a default is wanted, and listings by the iterators that carry the resolver.
-fn make_own<'a>(
-    r: NamespaceResolver,
-    call: RecordedCall,
-    a: u16,
-    b: u16,
-    first: &'a [u8],
-    second: &'a [u8],
-) -> Called
-    ensures { result ≡ called_of r call a b first.now second.now }
-{
-    match call {
-        RecordedCall::Fresh => reset_to(NamespaceResolver::fresh()),
-        RecordedCall::AddDefault => changed_by(replay_forms::add(
-            r,
-            PrefixDeclaration::Default,
-            first,
-            second,
-        )),
-        RecordedCall::AddNamed => changed_by(replay_forms::add(
-            r,
-            PrefixDeclaration::Named,
-            first,
-            second,
-        )),
-        RecordedCall::Push => changed_by(replay_forms::push(r, first, replay::wide(a))),
-        RecordedCall::Pop => changed_by(replay_forms::pop(r)),
-        RecordedCall::SetLevel => changed_by(replay_forms::set_level(r, a)),
-        RecordedCall::SetLimit => reset_to(replay_forms::set_max_namespace_bindings(
-            r,
-            replay::wide(a),
-        )),
-        RecordedCall::ResolveAttribute => looked_up(r, scope_lookup::resolve(r, first, false)),
-        RecordedCall::ResolveElement => looked_up(r, scope_lookup::resolve(r, first, true)),
-        RecordedCall::Bindings => listed_as(r, replay_forms::bindings(r, replay::wide(a))),
-        RecordedCall::BindingsOf => listed_as(r, replay_forms::bindings_of(r, b, replay::wide(a))),
-    }
-}
-
-// In the one form or the other.
-fn make_by<'a>(
-    own: bool,
-    r: NamespaceResolver,
-    call: RecordedCall,
-    a: u16,
-    b: u16,
-    first: &'a [u8],
-    second: &'a [u8],
-) -> Called
-    ensures { result ≡ called_of r call a b first.now second.now }
-{
-    if own {
-        return make_own(r, call, a, b, first, second);
-    }
-    make(r, call, a, b, first, second)
 }
 
 // Whether an answer is the one that is recorded at the front of some bytes.
+#[tactic(auto, unfolding(crate::specs::Replay::same_said))]
 fn same_said(answer: Said, recorded: &[u8]) -> bool
     requires { 18 ≤ length recorded.now }
     ensures { result ≡ same_said answer recorded.now }
 {
-    if !replay::is_two(recorded, 0, answer.code) {
-        return false;
-    }
-    if !replay::is_two(recorded, 2, answer.first) {
-        return false;
-    }
-    if !replay::is_two(recorded, 4, answer.second) {
-        return false;
-    }
-    if !replay::is_two(recorded, 6, answer.third) {
-        return false;
-    }
-    if !replay::is_two(recorded, 8, answer.fourth) {
-        return false;
-    }
-    replay::is_two(recorded, 10, answer.fifth)
+    replay::is_two(recorded, 0, answer.code)
+        && replay::is_two(recorded, 2, answer.first)
+        && replay::is_two(recorded, 4, answer.second)
+        && replay::is_two(recorded, 6, answer.third)
+        && replay::is_two(recorded, 8, answer.fourth)
+        && replay::is_two(recorded, 10, answer.fifth)
 }
 
 // Whether the text in use, the record count and the level are those that stand after it.
+#[tactic(auto, unfolding(crate::specs::Replay::same_left))]
 fn same_left(used: usize, count: usize, level: usize, recorded: &[u8]) -> bool
     requires { 18 ≤ length recorded.now }
     ensures { result ≡ same_left used count level recorded.now }
 {
-    if !replay::is_two(recorded, 12, used) {
-        return false;
-    }
-    if !replay::is_two(recorded, 14, count) {
-        return false;
-    }
-    replay::is_two(recorded, 16, level)
+    replay::is_two(recorded, 12, used)
+        && replay::is_two(recorded, 14, count)
+        && replay::is_two(recorded, 16, level)
 }
 
 // What a call of a record of so many bytes made is held against what is recorded.
+#[tactic(auto, unfolding(crate::specs::Replay::held_to))]
 fn held_to(made: Called, size: usize, recorded: &[u8]) -> Turn
     requires { 18 ≤ length recorded.now }
     ensures { result ≡ held_to made size recorded.now }
 {
-    let answer = made.said;
-    let left = made.resolver;
-    let head = left.head;
-    if !same_said(answer, recorded) {
-        return Turn {
-            step: RecordStep::Differs,
-            resolver: left,
-        };
-    }
-    if !same_left(head.used, head.count, head.level, recorded) {
-        return Turn {
-            step: RecordStep::Differs,
-            resolver: left,
-        };
-    }
-    Turn {
-        step: RecordStep::Agrees(size, made.names, made.bindings),
-        resolver: left,
-    }
+    let resolver = made.resolver;
+    let head = resolver.head;
+    let same = same_said(made.said, recorded)
+        && same_left(head.used, head.count, head.level, recorded);
+    let step = if same {
+        Ok(Agreed {
+            size,
+            names: made.names,
+            bindings: made.bindings,
+        })
+    } else {
+        Err(RecordError::Differs)
+    };
+    Turn { step, resolver }
 }
 
-fn lengths_of(rest: &[u8]) -> Lengths
+// The lengths of the record at the front, where the whole record is there.
+#[tactic(auto, unfolding(crate::specs::Replay::lengths_of))]
+fn lengths_of(rest: &[u8]) -> Option<Lengths>
     ensures { result ≡ lengths_of rest.now }
 {
     if rest.len() < 27 {
-        return Lengths::Cut;
+        return None;
     }
     if 10 < rest[0] {
-        return Lengths::Cut;
+        return None;
     }
     let n = replay::wide(replay::two_at(rest, 5));
     if rest.len() - 27 < n {
-        return Lengths::Cut;
+        return None;
     }
     let m = replay::wide(replay::two_at(rest, 7 + n));
     if rest.len() - 27 - n < m {
-        return Lengths::Cut;
+        return None;
     }
-    Lengths::Whole(n, m)
+    Some(Lengths {
+        first: n,
+        second: m,
+    })
 }
 
 // The call of a whole record, whose texts have n and m bytes.
-fn turn_of(own: bool, r: NamespaceResolver, rest: &[u8], n: usize, m: usize) -> Turn
+fn turn_of<F: Form>(r: NamespaceResolver, rest: &[u8], n: usize, m: usize) -> Turn
     requires { 27 + n + m ≤ length rest.now }
     ensures { result ≡ turn_of r rest.now n m }
 {
     let to = 7 + n;
     let from = 9 + n;
     let end = from + m;
-    let made = make_by(
-        own,
+    let made = make::<F>(
         r,
         call_of(rest[0]),
         replay::two_at(rest, 1),
@@ -419,32 +481,31 @@ fn turn_of(own: bool, r: NamespaceResolver, rest: &[u8], n: usize, m: usize) -> 
     held_to(made, 18 + end, &rest[end..])
 }
 
-fn record_of(own: bool, r: NamespaceResolver, rest: &[u8]) -> Turn
+fn record_of<F: Form>(r: NamespaceResolver, rest: &[u8]) -> Turn
     ensures { result ≡ call_record_of r rest.now }
 {
     let lengths = lengths_of(rest);
     match lengths {
-        Lengths::Whole(n, m) => turn_of(own, r, rest, n, m),
-        Lengths::Cut => Turn {
-            step: RecordStep::Cut,
+        Some(whole) => turn_of::<F>(r, rest, whole.first, whole.second),
+        None => Turn {
+            step: Err(RecordError::Cut),
             resolver: r,
         },
     }
 }
 
 // How many records agree before the first that does not, and where that one is. A fresh resolver is there from the start.
-fn replay(records: &[u8], own: bool) -> Replayed
+fn replay<F: Form>(records: &[u8]) -> Replayed
     ensures { result ≡ calls_replayed records.now }
 {
     let mut resolver = NamespaceResolver::fresh();
     let mut run = replay::begun();
+    // a `while`, as records have any size: no range gives the places
     while run.at < records.len() {
         let at = run.at;
-        let turn = record_of(own, resolver, &records[at..]);
-        let left = turn.resolver;
-        let step = turn.step;
-        resolver = left;
-        run = replay::after(run, step, records.len());
+        let turn = record_of::<F>(resolver, &records[at..]);
+        resolver = turn.resolver;
+        run = replay::after(run, turn.step, records.len());
     }
     run
 }
@@ -462,13 +523,13 @@ fn say(rt: &impl Print, words: &str, n: usize) -> io::Result<()> {
 }
 
 // The end of a line of counts: all agreed, or where the run stopped. `which` says what a record is.
-fn say_end(rt: &impl Print, end: RunEnd, which: &str) -> io::Result<()> {
+fn say_end(rt: &impl Print, end: Result<(), RunError>, which: &str) -> io::Result<()> {
     match end {
-        RunEnd::All => println!(rt; ", all as recorded"),
-        RunEnd::Differs(at) => {
+        Ok(()) => println!(rt; ", all as recorded"),
+        Err(RunError::Differs(at)) => {
             println!(rt; " as recorded, and {which} that is not at byte {at}")
         }
-        RunEnd::Cut(at) => println!(rt; " as recorded, and no whole record at byte {at}"),
+        Err(RunError::Cut(at)) => println!(rt; " as recorded, and no whole record at byte {at}"),
     }
 }
 
@@ -486,8 +547,7 @@ fn show(rt: &impl Print, run: Replayed) -> io::Result<()> {
     say(rt, "calls ", run.records)?;
     say(rt, ", names ", run.names)?;
     say(rt, ", bindings ", run.bindings)?;
-    let end = run.end;
-    say_end(rt, end, "a call")
+    say_end(rt, run.end, "a call")
 }
 
 fn main(rt: HostRuntime) -> io::Result<()> {
@@ -497,6 +557,6 @@ fn main(rt: HostRuntime) -> io::Result<()> {
     if too_long(&rt, &mut rt.stdin())? {
         return Ok(());
     }
-    show(&rt, replay(&buffer[..n], false))?;
-    show(&rt, replay(&buffer[..n], true))
+    show(&rt, replay::<ByValue>(&buffer[..n]))?;
+    show(&rt, replay::<Lent>(&buffer[..n]))
 }

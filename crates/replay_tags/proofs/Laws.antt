@@ -11,19 +11,19 @@ use Rattle.scan.specs.First.{pick}
 use Rattle.scan.specs.Bytes.{part}
 use Rattle.scan.proofs.Lists.{to_end}
 use Rattle.tag_step.specs.Next.{opened}
-use Rattle.replay.specs.declared.RecordStep.TheVariants.{Agrees, Differs, Cut}
+use Rattle.replay.specs.Run.{agrees, differs, cut}
 use Rattle.replay.specs.Numbers.{two_at}
 use Rattle.replay.proofs.Turns.{Passes, passes_agrees, passes_differs, passes_cut, passes_pick}
 use Rattle.replay_tags.specs.Replay.{answers_agree, tail_agrees, tail_of, tag_record_of}
 
 -- the record at the front
 module _ (rest : List ℕ) where
-  pub too_few : length rest < 8 → Cut ≡ tag_record_of rest
+  pub too_few : length rest < 8 → cut ≡ tag_record_of rest
   unfolding tag_record_of
   too_few h = rw (lt-ltb (length rest) 8 h)
 
   module _ {n : ℕ} (a : 8 ≤ length rest) (e : n ≡ two_at rest 0) where
-    pub tag_cut : length rest - 8 < n → Cut ≡ tag_record_of rest
+    pub tag_cut : length rest - 8 < n → cut ≡ tag_record_of rest
     unfolding tag_record_of
     tag_cut b = rw (le-ltb (length rest) 8 a, ← e, lt-ltb (length rest - 8) n b)
 
@@ -35,11 +35,11 @@ module _ (rest : List ℕ) where
       unfolding tag_record_of
       opens = rw (le-ltb (length rest) 8 a, ← e, le-ltb (length rest - 8) n b, is_tail)
 
-      pub answers_cut : (length tail - 6) / 10 < k → Cut ≡ tag_record_of rest
+      pub answers_cut : (length tail - 6) / 10 < k → cut ≡ tag_record_of rest
       unfolding tail_of
       answers_cut h = sym (opens ∙ rw (← ek, lt-ltb ((length tail - 6) / 10) k h))
 
-      pub whole : {t html checks : Bool} {o : ℕ} {recorded : List ℕ} → k ≤ (length tail - 6) / 10 → html ≡ eqb (get_or tail 0 0) 1 → checks ≡ eqb (get_or tail 1 0) 1 → o ≡ two_at tail 2 → recorded ≡ take (length tail - 6) (drop 6 tail) → t ≡ answers_agree (take (2 + n - 2) (drop 2 rest)) (opened o html checks) k recorded → pick t (Agrees (8 + n + 10 * k) 0 0) Differs ≡ tag_record_of rest
+      pub whole : {t html checks : Bool} {o : ℕ} {recorded : List ℕ} → k ≤ (length tail - 6) / 10 → html ≡ eqb (get_or tail 0 0) 1 → checks ≡ eqb (get_or tail 1 0) 1 → o ≡ two_at tail 2 → recorded ≡ take (length tail - 6) (drop 6 tail) → t ≡ answers_agree (take (2 + n - 2) (drop 2 rest)) (opened o html checks) k recorded → pick t (agrees (8 + n + 10 * k) 0 0) differs ≡ tag_record_of rest
       unfolding tail_of tail_agrees part
       whole {t} {html} {checks} {o} {recorded} h eh ec eo er et' =
           let er' = er ∙ to_end 6 tail in

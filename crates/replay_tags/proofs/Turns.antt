@@ -10,7 +10,7 @@ use lib.Dec.{eqb, leb, ltb}
 use borrow.Author.Tests.{eq-eqb, ne_eqb, eqb-true, eqb-false, leb-true, leb-false, ltb-true, ltb-false}
 use Rattle.scan.specs.Bytes.{same_bytes}
 use Rattle.scan.proofs.Bytes.{same_length}
-use Rattle.tag_step.specs.declared.Answer.{Answer}
+use Rattle.tag_step.specs.Answer.{Answer}
 use Rattle.tag_step.specs.declared.IterState.{IterState}
 use Rattle.tag_step.specs.Next.{next_of}
 use Rattle.tag_step.specs.Run.{is_end, cons_unless, run_of, answers_of}

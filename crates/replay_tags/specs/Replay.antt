@@ -8,11 +8,9 @@ use Rattle.tag_step.specs.declared.Place.TheVariants.{Next}
 use Rattle.tag_step.specs.Next.{opened, lent_state}
 use Rattle.tag_step.specs.Run.{answers_of}
 use Rattle.tag_batch.specs.Batch.{fives_of}
-use Rattle.replay.specs.declared.RecordStep.{RecordStep}
-use Rattle.replay.specs.declared.RecordStep.TheVariants.{Agrees, Differs, Cut}
 use Rattle.replay.specs.declared.Replayed.{Replayed}
 use Rattle.replay.specs.Numbers.{two_at, twos_of}
-use Rattle.replay.specs.Run.{replay_each}
+use Rattle.replay.specs.Run.{RecordStep, agrees, differs, cut, replay_each}
 
 -- the recorded numbers, five for each of so many answers, are those of the answers
 unfoldable pub answers_agree : List ℕ → IterState → (answers : ℕ) → (recorded : List ℕ) → Bool
@@ -39,13 +37,13 @@ tail_agrees tag tail =
 -- the record at the front: the tag's length in two bytes, the tag, six bytes, ten for each answer
 unfoldable pub tail_of : (rest : List ℕ) → (n : ℕ) → (tail : List ℕ) → RecordStep
 tail_of rest n tail =
-    pick (ltb ((length tail - 6) / 10) (two_at tail 4)) Cut
-    (pick (tail_agrees (part rest 2 (2 + n)) tail) (Agrees (8 + n + 10 * two_at tail 4) 0 0) Differs)
+    pick (ltb ((length tail - 6) / 10) (two_at tail 4)) cut
+    (pick (tail_agrees (part rest 2 (2 + n)) tail) (agrees (8 + n + 10 * two_at tail 4) 0 0) differs)
 
 unfoldable pub tag_record_of : List ℕ → RecordStep
 tag_record_of rest =
-    pick (ltb (length rest) 8) Cut
-    (pick (ltb (length rest - 8) (two_at rest 0)) Cut
+    pick (ltb (length rest) 8) cut
+    (pick (ltb (length rest - 8) (two_at rest 0)) cut
     (tail_of rest (two_at rest 0) (drop (2 + two_at rest 0) rest)))
 
 unfoldable pub tags_replayed : List ℕ → Replayed

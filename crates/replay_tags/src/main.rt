@@ -16,10 +16,10 @@ ghost use Rattle.tag_batch.specs.Batch.{listed};
 ghost use Rattle.replay.specs.Numbers.{twos_of};
 ghost use Rattle.replay_tags.specs.Replay.{answers_agree, ReplayMemory, replay_opened, tag_record_of, tags_replayed};
 
-use replay::{RecordStep, Replayed, RunEnd};
+use replay::{Agreed, RecordError, Replayed, RunError};
 use std::io;
 use std::io::Read;
-use tag_batch::{Batch, Five};
+use tag_batch::Five;
 use tag_keys::CAPACITY;
 use tag_step::{IterState, Place, Standing};
 
@@ -58,17 +58,19 @@ fn agrees_on<'a>(
     let mut place = Place::Next(mode.opening);
     let mut keys = 0;
     let mut total = 0;
+    // a `loop`, as the answers that were read say whether there is another page: no range gives the pages
     loop {
         let at = Standing {
-            place: place,
-            html: html,
-            checks: checks,
+            place,
+            html,
+            checks,
             count: keys,
         };
         let left = tag_batch::read_batch(tag, starts, ends, hashes, at, out);
-        let Batch::Read(n, next, count, _) = left else {
+        let Ok(read) = left else {
             return false;
         };
+        let n = read.answers;
         if answers - total < n {
             return false;
         }
@@ -81,8 +83,8 @@ fn agrees_on<'a>(
             return total + n == answers;
         }
         total += n;
-        place = next;
-        keys = count;
+        place = read.place;
+        keys = read.count;
     }
 }
 
@@ -138,6 +140,7 @@ fn agrees_carried(
 {
     let mut state = opened_as(tag, html, checks, opening);
     let mut total = 0;
+    // a `loop`, as the tag's end is an answer too and is looked at: a range over the recorded answers would leave it out
     loop {
         let step = replay_forms::next(state, tag);
         let answer = step.answer;
@@ -176,22 +179,22 @@ fn agrees_by(
     agrees(tag, mode, answers, recorded, out)
 }
 
-fn record_of(rest: &[u8], carried: bool, out: &mut [usize]) -> RecordStep
+fn record_of(rest: &[u8], carried: bool, out: &mut [usize]) -> Result<Agreed, RecordError>
     requires { 5 ≤ length out.old }
     ensures { result ≡ tag_record_of rest.now }
 {
     if rest.len() < 8 {
-        return RecordStep::Cut;
+        return Err(RecordError::Cut);
     }
     let n = replay::number_at(rest, 0);
     if rest.len() - 8 < n {
-        return RecordStep::Cut;
+        return Err(RecordError::Cut);
     }
     let to = 2 + n;
     let tail = &rest[to..];
     let answers = replay::number_at(tail, 4);
     if (tail.len() - 6) / 10 < answers {
-        return RecordStep::Cut;
+        return Err(RecordError::Cut);
     }
     let mode = Mode {
         html: wide(tail[0]) == 1,
@@ -199,9 +202,13 @@ fn record_of(rest: &[u8], carried: bool, out: &mut [usize]) -> RecordStep
         opening: replay::number_at(tail, 2),
     };
     if agrees_by(carried, &rest[2..to], mode, answers, &tail[6..], out) {
-        return RecordStep::Agrees(8 + n + 10 * answers, 0, 0);
+        return Ok(Agreed {
+            size: 8 + n + 10 * answers,
+            names: 0,
+            bindings: 0,
+        });
     }
-    RecordStep::Differs
+    Err(RecordError::Differs)
 }
 
 // How many records agree before the first that does not, and where that one is.
@@ -210,6 +217,7 @@ fn replay(records: &[u8], carried: bool, out: &mut [usize]) -> Replayed
     ensures { result ≡ tags_replayed records.now }
 {
     let mut run = replay::begun();
+    // a `while`, as records have any size: no range gives the places
     while run.at < records.len() {
         let at = run.at;
         let step = record_of(&records[at..], carried, out);
@@ -231,13 +239,13 @@ fn say(rt: &impl Print, words: &str, n: usize) -> io::Result<()> {
 }
 
 // The end of a line of counts: all agreed, or where the run stopped. `which` says what a record is.
-fn say_end(rt: &impl Print, end: RunEnd, which: &str) -> io::Result<()> {
+fn say_end(rt: &impl Print, end: Result<(), RunError>, which: &str) -> io::Result<()> {
     match end {
-        RunEnd::All => println!(rt; ", all as recorded"),
-        RunEnd::Differs(at) => {
+        Ok(()) => println!(rt; ", all as recorded"),
+        Err(RunError::Differs(at)) => {
             println!(rt; " as recorded, and {which} that is not at byte {at}")
         }
-        RunEnd::Cut(at) => println!(rt; " as recorded, and no whole record at byte {at}"),
+        Err(RunError::Cut(at)) => println!(rt; " as recorded, and no whole record at byte {at}"),
     }
 }
 
@@ -253,8 +261,7 @@ fn too_long(rt: &impl Print, from: &mut impl Read) -> io::Result<bool> {
 
 fn show(rt: &impl Print, run: Replayed) -> io::Result<()> {
     say(rt, "tags ", run.records)?;
-    let end = run.end;
-    say_end(rt, end, "one")
+    say_end(rt, run.end, "one")
 }
 
 fn replay_thrice(rt: &impl Print, records: &[u8]) -> io::Result<()> {

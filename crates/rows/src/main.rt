@@ -7,56 +7,57 @@ use std::io;
 use tag_keys::CAPACITY;
 use tag_step::{Place, Standing};
 
-fn row_on<'a>(
-    rt: &impl Print,
-    tag: &[u8],
-    html: bool,
-    open: usize,
-    starts: &'a mut [usize],
-    ends: &'a mut [usize],
-    hashes: &'a mut [u32],
-    numbers: &mut [usize],
-    text: &mut [u8],
-) -> io::Result<()> {
-    let at = Standing {
-        place: Place::Next(open),
-        html: html,
-        checks: true,
-        count: 0,
-    };
-    let page = lines::page(tag, starts, ends, hashes, at, numbers, text);
-    let length = page.length;
-    if length <= text.len() {
-        rt.write_all(&text[..length])?;
+// The memory that a row is read in: the tables of recorded keys, the answers in numbers, and their lines.
+#[derive(Drop)]
+struct Memory {
+    starts: [usize; CAPACITY],
+    ends: [usize; CAPACITY],
+    hashes: [u32; CAPACITY],
+    numbers: [usize; 80],
+    text: [u8; 1712],
+}
+
+impl Memory {
+    fn new() -> Memory {
+        Memory {
+            starts: [0; CAPACITY],
+            ends: [0; CAPACITY],
+            hashes: [0; CAPACITY],
+            numbers: [0; 80],
+            text: [0; 1712],
+        }
     }
-    Ok(())
+
+    // The lines of a tag's answers, from an opening position on.
+    fn lines(&mut self, tag: &[u8], html: bool, open: usize) -> Option<&[u8]> {
+        let at = Standing {
+            place: Place::Next(open),
+            html,
+            checks: true,
+            count: 0,
+        };
+        let page = lines::page(
+            tag,
+            &mut self.starts,
+            &mut self.ends,
+            &mut self.hashes,
+            at,
+            &mut self.numbers,
+            &mut self.text,
+        );
+        self.text.get(..page.length)
+    }
 }
 
 fn row(rt: &impl Print, tag: &[u8], html: bool, open: usize) -> io::Result<()> {
-    if html {
-        print!(rt; "h ")?;
-    } else {
-        print!(rt; "x ")?;
-    }
-    print!(rt; "{open} |")?;
+    let mode = if html { "h" } else { "x" };
+    print!(rt; "{mode} {open} |")?;
     rt.write_all(tag)?;
     println!(rt; "|")?;
-    let mut starts = [0usize; CAPACITY];
-    let mut ends = [0usize; CAPACITY];
-    let mut hashes = [0u32; CAPACITY];
-    let mut numbers = [0usize; 80];
-    let mut text = [0u8; 1712];
-    row_on(
-        rt,
-        tag,
-        html,
-        open,
-        &mut starts,
-        &mut ends,
-        &mut hashes,
-        &mut numbers,
-        &mut text,
-    )?;
+    let mut memory = Memory::new();
+    if let Some(lines) = memory.lines(tag, html, open) {
+        rt.write_all(lines)?;
+    }
     println!(rt; "end")
 }
 

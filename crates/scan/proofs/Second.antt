@@ -5,6 +5,7 @@ use mathlib.Core.Path.{◌≡◌, refl, sym, ap, ◌∙◌}
 use mathlib.Core.Bool.{Bool, true, false, true≢false}
 use mathlib.Core.List.{List}
 use native.Mathlib.Omega.{arith}
+use Rattle.std.proofs.Common.{Fits, w8}
 use lib.Bits.{bit_and, bit_xor, and_block, and_self, xor_lt}
 use lib.Pow.{shr-shr}
 use lib.Dec.{eqb}
@@ -198,3 +199,29 @@ module _ (p : ℕ → Bool) (s : List ℕ) where
 
   pub found_first : (at : ℕ) → at ≡ first_from p s 0 → at < length s → p (get_or s at 0) ≡ true
   found_first at e l = rw e ((first p s 0 (omega arith)).found (omega arith))
+
+-- The first eight bytes by their marks w, of which the code counts the zeros at the end: r bytes stand before the first `b`.
+module _ (s : List ℕ) (b : ℕ) (small : (k : ℕ) → Fits w8 (get_or s k 0)) (lt : b < 256) (long : 8 ≤ length s) (w r : ℕ) (word : w ≡ word_of (λ k. mark_of b (get_or s k 0)) 8 0) (zeros : r ≡ count_trailing_zeros 64 w / 8) where
+  at_first : 0 + r ≡ first_to (λ k. is_byte b (get_or s k 0)) 0 (0 + 8)
+  at_first = marked_first (λ k. get_or s k 0) b (λ k. omega (arith, small k)) lt w r 0 word zeros
+
+  found_near : r < 8 → r ≡ first_from (is_byte b) s 0
+  found_near = first_near s b long r at_first
+
+  here_near : r < 8 → is_byte b (get_or s r 0) ≡ true
+  here_near l = found_first (is_byte b) s r (found_near l) (omega arith)
+
+  -- none of them is `b`
+  pub none_near : 8 ≤ r → first_from (is_byte b) s 8 ≡ first_from (is_byte b) s 0
+  none_near = first_far s b long r at_first
+
+  -- one is, and so w is not 0
+  pub some_near : r < 8 → 1 ≤ w
+  some_near l = some_mark s b long r (here_near l) l w word
+
+  -- the second is looked for behind the first, or, where the first is alone among the eight, behind all of them
+  pub twice_again : (q : ℕ) → r < 8 → q ≡ first_from (is_byte b) s (r + 1) → ◌≡◌ {A = Twice} (record { first = r; second = q }) (twice_in (is_byte b) s)
+  twice_again q l e = twice_is (is_byte b) s r q (found_near l) (second_again (is_byte b) s r q (found_near l) (omega arith) e)
+
+  pub twice_alone : (q : ℕ) → r < 8 → bit_and w (w - 1) ≡ 0 → q ≡ first_from (is_byte b) s 8 → ◌≡◌ {A = Twice} (record { first = r; second = q }) (twice_in (is_byte b) s)
+  twice_alone q l alone e = twice_again q l (e ∙ near_skip s b long r (here_near l) l w word alone)

@@ -10,19 +10,19 @@ use native.Mathlib.Omega.{arith}
 use lib.Dec.{leb, ltb}
 use lib.ListN.{length, length-append}
 use borrow.Author.Tests.{leb-false, ltb-false, le-leb, lt-leb, lt-ltb, le-ltb}
+use Rattle.std.specs.Prelude.{Ok, Err}
 use Rattle.scan.specs.First.{pick}
 use Rattle.scan.specs.Lists.{pad_to}
 use Rattle.scan.proofs.Laws.{picks}
 use Rattle.scope_table.specs.Lists.{last_below, cut}
 use Rattle.scope_table.specs.Records.{row_at, record_at, binding_of, row_of}
 use Rattle.scope_table.specs.Table.{TEXT, NUMBERS, head_of, resolver_of, text_of}
-use Rattle.scope_table.specs.Answer.{is_done, changed}
+use Rattle.scope_table.specs.Answer.{is_done, changed, NamespaceResult}
 use Rattle.scope_table.specs.Lent.{stands_for, holds_of, fits_of, given, lent_of}
 use Rattle.scope_table.specs.declared.Head.{Head}
 use Rattle.scope_table.specs.declared.NamespaceBinding.{NamespaceBinding}
 use Rattle.scope_table.specs.declared.NamespaceResolver.{NamespaceResolver}
-use Rattle.scope_table.specs.declared.NamespaceResult.{NamespaceResult}
-use Rattle.scope_table.specs.declared.NamespaceResult.TheVariants.{Done, TooManyBindings, BindingTableFull, TextFull, LendMore}
+use Rattle.scope_table.specs.declared.NamespaceError.TheVariants.{TooManyBindings, BindingTableFull, TextFull, LendMore}
 use Rattle.scope_table.proofs.Lists.{and_left, and_right, and_take}
 use Rattle.scope_table.proofs.Last.{last_hit, last_miss, last_within}
 use Rattle.scope_table.proofs.Rows.{rows_before, rows_within, row_fits}
@@ -36,7 +36,7 @@ use Rattle.scope_change.specs.declared.Room.{Room}
 
 -- Room for a binding.
 
-room_not : (limit : ℕ) (t₁ t₂ t₃ : Bool) → is_done (pick t₁ (TooManyBindings limit) (pick t₂ BindingTableFull (pick t₃ TextFull Done))) ≡ true → (t₂ ≡ false) × (t₃ ≡ false)
+room_not : (limit : ℕ) (t₁ t₂ t₃ : Bool) → is_done (pick t₁ (Err (TooManyBindings limit)) (pick t₂ (Err BindingTableFull) (pick t₃ (Err TextFull) (Ok tt)))) ≡ true → (t₂ ≡ false) × (t₃ ≡ false)
 room_not limit true t₂ t₃ e = absurd (false≢true e)
 room_not limit false true t₃ e = absurd (false≢true e)
 room_not limit false false true e = absurd (false≢true e)
@@ -49,7 +49,7 @@ room_has room head size e =
     (leb-false room.records head.count b.0, ltb-false room.bytes (head.used + size) b.1)
 
 module _ (bytes numbers : ℕ) (room : Room) (head : Head) (size : ℕ) where
-  lent_by : (t u : Bool) (a : NamespaceResult) → is_done (pick t (pick u Done LendMore) a) ≡ true → (t ≡ false → is_done a ≡ false) → (t ≡ true) × (u ≡ true)
+  lent_by : (t u : Bool) (a : NamespaceResult) → is_done (pick t (pick u (Ok tt) (Err LendMore)) a) ≡ true → (t ≡ false → is_done a ≡ false) → (t ≡ true) × (u ≡ true)
   lent_by true true a e f = (refl, refl)
   lent_by true false a e f = absurd (false≢true e)
   lent_by false u a e f = absurd (false≢true (sym (f refl) ∙ e))
@@ -74,11 +74,11 @@ module _ (bytes numbers : ℕ) (room : Room) (head : Head) (size : ℕ) where
   unfolding lent_refusal_of
   lent_refused a e n = rw (← e, n)
 
-  pub lent_yes : (a : NamespaceResult) → a ≡ refusal_of room head size → a ≡ Done → fits_of bytes numbers (head.used + size) (head.count + 1) ≡ true → Done ≡ lent_refusal_of bytes numbers room head size
+  pub lent_yes : (a : NamespaceResult) → a ≡ refusal_of room head size → a ≡ Ok tt → fits_of bytes numbers (head.used + size) (head.count + 1) ≡ true → Ok tt ≡ lent_refusal_of bytes numbers room head size
   unfolding lent_refusal_of
   lent_yes a e d f = rw (← e, d, f)
 
-  pub lent_no : (a : NamespaceResult) → a ≡ refusal_of room head size → a ≡ Done → fits_of bytes numbers (head.used + size) (head.count + 1) ≡ false → LendMore ≡ lent_refusal_of bytes numbers room head size
+  pub lent_no : (a : NamespaceResult) → a ≡ refusal_of room head size → a ≡ Ok tt → fits_of bytes numbers (head.used + size) (head.count + 1) ≡ false → Err LendMore ≡ lent_refusal_of bytes numbers room head size
   unfolding lent_refusal_of
   lent_no a e d f = rw (← e, d, f)
 
@@ -97,9 +97,9 @@ module _ (text records : List ℕ) (head : Head) (room : Room) (w : CanAppend (l
   unfolding append_of
   refuses n = unchanged text records head w.fit (append_of room p v) (refusal_of room head size) (rw n)
 
-  lacks : is_done (refusal_of room head size) ≡ true → HoldsIt false → Meant LendMore
+  lacks : is_done (refusal_of room head size) ≡ true → HoldsIt false → Meant (Err LendMore)
   unfolding append_of bound_of
-  lacks d f = lends_more text records head w.fit (append_of room p v) Done (bound_of p v (stands_for text records head)) (rw d) f
+  lacks d f = lends_more text records head w.fit (append_of room p v) (Ok tt) (bound_of p v (stands_for text records head)) (rw d) f
 
   -- what the call does where it does not write
   pub append_not : (a : NamespaceResult) → a ≡ lent_refusal_of (length text) (length records) room head size → is_done a ≡ false → Meant a
@@ -111,15 +111,15 @@ module _ (text records : List ℕ) (head : Head) (room : Room) (w : CanAppend (l
     by true true q h = absurd (false≢true (sym n ∙ ap is_done e ∙ rw (q, h)))
 
   -- and where it does
-  pub append_done : Done ≡ lent_refusal_of (length text) (length records) room head size → (t r : List ℕ) (h : Head) → resolver_of t r h ≡ bound_of p v (resolver_of text records head) → given Done t r h ≡ lent_of (append_of room p v) text records head
+  pub append_done : (Ok tt) ≡ lent_refusal_of (length text) (length records) room head size → (t r : List ℕ) (h : Head) → resolver_of t r h ≡ bound_of p v (resolver_of text records head) → given (Ok tt) t r h ≡ lent_of (append_of room p v) text records head
   unfolding append_of bound_of
   append_done e t r h b =
       let d = lent_has (length text) (length records) room head size (ap is_done (sym e)) in
       let l = lent_holds (length text) (length records) room head size w (ap is_done (sym e)) in
       let n : head.used + length (p ++ v) ≤ length text = omega (arith, length-append p v, l.text) in
       let new = binding_of head.used (length p) (length v) head.level in
-      ap (λ (x : NamespaceResolver). given Done x.text x.records x.head) b
-      ∙ changes text records head w.fit (append_of room p v) Done (bound_of p v (stands_for text records head)) _ _ (rw d.0) d.1
+      ap (λ (x : NamespaceResolver). given (Ok tt) x.text x.records x.head) b
+      ∙ changes text records head w.fit (append_of room p v) (Ok tt) (bound_of p v (stands_for text records head)) _ _ (rw d.0) d.1
       (pad_over TEXT text head.used (p ++ v) n)
       (pad_over NUMBERS records (row_at head.count) (row_of new) (row_fits head.count (length records) new l.row))
 
@@ -182,13 +182,13 @@ module _ (text records : List ℕ) (head : Head) (ok : Ready text records head) 
       and_take (holds_is TEXT (length text) e ok.bytes_most (omega (arith, e_within, ok.bytes_lent)))
       (holds_is NUMBERS (length records) (row_at k) ok.numbers_most (rows_before k head.count (length records) k_within ok.rows_lent))
 
-  drops : level_of to (stands_for text records head) ≡ changed Done (resolver_of (cut (pad_to TEXT text) e) (cut (pad_to NUMBERS records) (row_at k)) (head_of e k to head.limit))
+  drops : level_of to (stands_for text records head) ≡ changed (Ok tt) (resolver_of (cut (pad_to TEXT text) e) (cut (pad_to NUMBERS records) (row_at k)) (head_of e k to head.limit))
   unfolding level_of dropped_of kept_of
   drops = rw (ok.valid, pad_records NUMBERS records, ← ek, ← e_text)
 
   -- what the clears leave is what is meant
-  pub level_done : (t r : List ℕ) → t ≡ cut text e → r ≡ cut records (row_at k) → given Done t r (head_of e k to head.limit) ≡ lent_of (level_of to) text records head
+  pub level_done : (t r : List ℕ) → t ≡ cut text e → r ≡ cut records (row_at k) → given (Ok tt) t r (head_of e k to head.limit) ≡ lent_of (level_of to) text records head
   level_done t r p q =
-      changes text records head ok.fit (level_of to) Done _ t r drops still_fits
+      changes text records head ok.fit (level_of to) (Ok tt) _ t r drops still_fits
       (pad_cut TEXT text e ok.bytes_most (omega (arith, e_within, ok.bytes_lent)) ∙ sym p)
       (pad_cut NUMBERS records (row_at k) ok.numbers_most (rows_before k head.count (length records) k_within ok.rows_lent) ∙ sym q)

@@ -1,18 +1,17 @@
 -- What a call that changes a resolver leaves: one binding more, and the records above a level dropped.
-use Rattle.std.specs.Prelude.{ℕ, ◌+◌, ◌-◌, List, ◌++◌, length, leb, ltb}
+use Rattle.std.specs.Prelude.{ℕ, ◌+◌, ◌-◌, List, ◌++◌, length, leb, ltb, Ok, Err}
 use Rattle.scan.specs.First.{pick}
 use Rattle.scan.specs.Lists.{over}
 use Rattle.scope_table.specs.Lists.{last_below, cut}
 use Rattle.scope_table.specs.Records.{row_at, record_at, binding_of, row_of}
 use Rattle.scope_table.specs.Table.{TEXT, RECORDS, head_of, resolver_of, text_of, valid_of}
-use Rattle.scope_table.specs.Answer.{is_done, changed}
+use Rattle.scope_table.specs.Answer.{is_done, changed, NamespaceResult}
 use Rattle.scope_table.specs.Lent.{fits_of}
 use Rattle.scope_table.specs.declared.Head.{Head}
 use Rattle.scope_table.specs.declared.NamespaceBinding.{NamespaceBinding}
 use Rattle.scope_table.specs.declared.NamespaceResolver.{NamespaceResolver}
 use Rattle.scope_table.specs.declared.Changed.{Changed}
-use Rattle.scope_table.specs.declared.NamespaceResult.{NamespaceResult}
-use Rattle.scope_table.specs.declared.NamespaceResult.TheVariants.{Done, TooManyBindings, BindingTableFull, TextFull, BadResolver, LendMore}
+use Rattle.scope_table.specs.declared.NamespaceError.TheVariants.{TooManyBindings, BindingTableFull, TextFull, BadResolver, LendMore}
 use Rattle.scope_change.specs.declared.Room.{Room}
 
 -- What may be in use at most.
@@ -35,14 +34,14 @@ bound_of p v x =
 -- there may be are in use; 19 if text used plus both lengths exceeds what there may be.
 unfoldable pub refusal_of : Room → Head → (size : ℕ) → NamespaceResult
 refusal_of room head size =
-    pick (leb head.limit (head.count - 2)) (TooManyBindings head.limit)
-    (pick (leb room.records head.count) BindingTableFull
-    (pick (ltb room.bytes (head.used + size)) TextFull
-    Done))
+    pick (leb head.limit (head.count - 2)) (Err (TooManyBindings head.limit))
+    (pick (leb room.records head.count) (Err BindingTableFull)
+    (pick (ltb room.bytes (head.used + size)) (Err TextFull)
+    (Ok tt)))
 
 -- A binding goes in where nothing refuses it; a refusal leaves the resolver as it was.
 abbrev pub appended : NamespaceResult → (prefix value : List ℕ) → NamespaceResolver → Changed
-appended a p v x = pick (is_done a) (changed Done (bound_of p v x)) (changed a x)
+appended a p v x = pick (is_done a) (changed (Ok tt) (bound_of p v x)) (changed a x)
 
 unfoldable pub append_of : Room → (prefix value : List ℕ) → NamespaceResolver → Changed
 append_of room p v x = appended (refusal_of room x.head (length p + length v)) p v x
@@ -51,7 +50,7 @@ append_of room p v x = appended (refusal_of room x.head (length p + length v)) p
 unfoldable pub lent_refusal_of : (bytes numbers : ℕ) → Room → Head → (size : ℕ) → NamespaceResult
 lent_refusal_of bytes numbers room head size =
     pick (is_done (refusal_of room head size))
-    (pick (fits_of bytes numbers (head.used + size) (head.count + 1)) Done LendMore)
+    (pick (fits_of bytes numbers (head.used + size) (head.count + 1)) (Ok tt) (Err LendMore))
     (refusal_of room head size)
 
 -- How many of the first n records stay at a level: those up to the last one that is not above it.
@@ -75,4 +74,4 @@ dropped_of level x = kept_of (kept_at (record_at x.records) level x.head.count) 
 
 -- A level is set: 20, or the records above it are dropped.
 unfoldable pub level_of : (level : ℕ) → NamespaceResolver → Changed
-level_of level x = pick (valid_of x) (changed Done (dropped_of level x)) (changed BadResolver x)
+level_of level x = pick (valid_of x) (changed (Ok tt) (dropped_of level x)) (changed (Err BadResolver) x)

@@ -4,16 +4,15 @@
 // functions work on lent memory that may be shorter than the capacity (scope_table, specs/Lent).
 #![tactic(auto)]
 
-ghost use Rattle.std.specs.Prelude.{◌≡◌, ◌+◌, ◌≤◌, length};
+ghost use Rattle.std.specs.Prelude.{◌≡◌, ◌+◌, ◌≤◌, Ok, length};
 ghost use Rattle.scope_table.specs.Lists.{cut};
 ghost use Rattle.scope_table.specs.Records.{row_at, record_at};
 ghost use Rattle.scope_table.specs.Table.{RECORDS, resolver_of};
 ghost use Rattle.scope_table.specs.Lent.{given, lent_of, form_of};
-ghost use Rattle.scope_table.specs.declared.Form.TheVariants.{Good};
 ghost use Rattle.scope_change.specs.Change.{bound_of, refusal_of, lent_refusal_of, append_of, kept_at, end_of, level_of};
 ghost use Rattle.scope_change.specs.Asked.{HoldsBinding, CanAppend};
 
-use scope_table::{Form, Head, NamespaceBinding, NamespaceResolver, NamespaceResult, Outcome};
+use scope_table::{Head, NamespaceBinding, NamespaceError, NamespaceResolver, Outcome};
 
 // What may be in use at most, in records and in bytes of text: all that there is for a single resolver.
 #[derive(Clone, Copy)]
@@ -24,7 +23,12 @@ pub struct Room {
 
 // Refusals 16, 18, 19 for a binding of these lengths, each at its turn. The lengths are compared with
 // what is free, one after the other, and never added: their sum might not be a number of 64 bits.
-fn refusal(room: Room, head: Head, prefix_len: usize, value_len: usize) -> NamespaceResult
+fn refusal(
+    room: Room,
+    head: Head,
+    prefix_len: usize,
+    value_len: usize,
+) -> Result<(), NamespaceError>
     ensures { result ≡ refusal_of room head (prefix_len + value_len) }
 {
     let limit = head.limit;
@@ -33,22 +37,22 @@ fn refusal(room: Room, head: Head, prefix_len: usize, value_len: usize) -> Names
     let records = room.records;
     let bytes = room.bytes;
     if limit <= scope_table::saturating_sub(count, NamespaceResolver::BUILT_INS) {
-        return NamespaceResult::TooManyBindings(limit);
+        return Err(NamespaceError::TooManyBindings(limit));
     }
     if records <= count {
-        return NamespaceResult::BindingTableFull;
+        return Err(NamespaceError::BindingTableFull);
     }
     if bytes < used {
-        return NamespaceResult::TextFull;
+        return Err(NamespaceError::TextFull);
     }
     let free = bytes - used;
     if free < prefix_len {
-        return NamespaceResult::TextFull;
+        return Err(NamespaceError::TextFull);
     }
     if free - prefix_len < value_len {
-        return NamespaceResult::TextFull;
+        return Err(NamespaceError::TextFull);
     }
-    NamespaceResult::Done
+    Ok(())
 }
 
 // The same on memory of these lengths: then it has to hold the binding.
@@ -59,22 +63,19 @@ fn lent_refusal(
     head: Head,
     prefix_len: usize,
     value_len: usize,
-) -> NamespaceResult
+) -> Result<(), NamespaceError>
     ensures { result ≡ lent_refusal_of bytes numbers room head (prefix_len + value_len) }
 {
     let used = head.used;
     let count = head.count;
-    let answer = refusal(room, head, prefix_len, value_len);
-    let NamespaceResult::Done = answer else {
-        return answer;
-    };
+    refusal(room, head, prefix_len, value_len)?;
     let size = prefix_len + value_len;
     let end = used + size;
     let next = count + 1;
     if scope_table::fits(bytes, numbers, end, next) {
-        return NamespaceResult::Done;
+        return Ok(());
     }
-    NamespaceResult::LendMore
+    Err(NamespaceError::LendMore)
 }
 
 // A binding is written: its text after the text in use, its record after the records in use.
@@ -107,16 +108,16 @@ fn write_binding<'p>(
     scan::put(text, middle, value);
     let written = NamespaceBinding {
         start: used,
-        prefix_len: prefix_len,
-        value_len: value_len,
-        level: level,
+        prefix_len,
+        value_len,
+        level,
     };
     scope_table::write_record(records, count, written);
     Head {
         used: end,
         count: next,
-        level: level,
-        limit: limit,
+        level,
+        limit,
     }
 }
 
@@ -136,17 +137,23 @@ pub fn append_in<'p>(
 {
     let prefix_len = prefix.len();
     let value_len = value.len();
-    let answer = lent_refusal(text.len(), records.len(), room, head, prefix_len, value_len);
-    let NamespaceResult::Done = answer else {
+    if let Err(refused) = lent_refusal(
+        text.len(),
+        records.len(),
+        room,
+        head,
+        prefix_len,
+        value_len,
+    ) {
         return Outcome {
-            answer: answer,
-            head: head,
+            answer: Err(refused),
+            head,
         };
-    };
-    let after = write_binding(text, records, head, prefix, value);
+    }
+    let head = write_binding(text, records, head, prefix, value);
     Outcome {
-        answer: NamespaceResult::Done,
-        head: after,
+        answer: Ok(()),
+        head,
     }
 }
 
@@ -157,14 +164,10 @@ fn kept(records: &[usize], n: usize, level: usize) -> usize
     requires bound { 2 ≤ kept_at (record_at records.now) level n }
     ensures { result ≡ kept_at (record_at records.now) level n }
 {
-    let mut i = n;
-    while NamespaceResolver::BUILT_INS < i {
-        let last = i - 1;
-        let b = scope_table::record_at(records, last);
-        if b.level <= level {
-            return i;
+    for i in (NamespaceResolver::BUILT_INS..n).rev() {
+        if scope_table::record_at(records, i).level <= level {
+            return i + 1;
         }
-        i = last;
     }
     NamespaceResolver::BUILT_INS
 }
@@ -185,7 +188,7 @@ fn text_end(records: &[usize], k: usize, count: usize, used: usize) -> usize
 // crate's branch for a level that no record is at or below, where everything goes, does not occur (`dead_clear` of crate
 // `law_scopes`).
 pub fn clear_above_in(text: &mut [u8], records: &mut [usize], head: Head, to: usize) -> Outcome
-    requires { form_of text.old records.old head ≡ Good }
+    requires { form_of text.old records.old head ≡ Ok tt }
     ensures { given result.answer text.new records.new result.head
         ≡ lent_of (level_of to) text.old records.old head }
 {
@@ -197,12 +200,12 @@ pub fn clear_above_in(text: &mut [u8], records: &mut [usize], head: Head, to: us
     scope_table::clear_bytes(text, end, used);
     scope_table::clear_rows(records, k, count);
     Outcome {
-        answer: NamespaceResult::Done,
+        answer: Ok(()),
         head: Head {
             used: end,
             count: k,
             level: to,
-            limit: limit,
+            limit,
         },
     }
 }
@@ -212,18 +215,13 @@ pub fn set_level_in(text: &mut [u8], records: &mut [usize], head: Head, to: u16)
     ensures { given result.answer text.new records.new result.head
         ≡ lent_of (level_of to) text.old records.old head }
 {
-    let found = scope_table::form_in(text, records, head);
-    match found {
-        Form::WrongLength => Outcome {
-            answer: NamespaceResult::WrongLength,
-            head: head,
-        },
-        Form::Bad => Outcome {
-            answer: NamespaceResult::BadResolver,
-            head: head,
-        },
-        Form::Good => clear_above_in(text, records, head, to as usize),
+    if let Err(wrong) = scope_table::form_in(text, records, head) {
+        return Outcome {
+            answer: Err(NamespaceError::from(wrong)),
+            head,
+        };
     }
+    clear_above_in(text, records, head, usize::from(to))
 }
 
 // What was added after the first `used` bytes and `count` records is taken back.

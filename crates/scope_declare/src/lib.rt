@@ -12,9 +12,9 @@ ghost use Rattle.scope_change.specs.Change.{level_of};
 ghost use Rattle.scope_change.specs.Asked.{CanAppend};
 ghost use Rattle.scope_declare.specs.Declare.{judge_of, declare_of, add_of, pop_of, limited_of};
 
-use name::{NamedCheck, PrefixDeclaration};
+use name::{PrefixDeclaration, ReservedBinding};
 use scope_change::Room;
-use scope_table::{Changed, Form, Head, NamespaceResolver, NamespaceResult, Outcome};
+use scope_table::{Changed, Head, NamespaceError, NamespaceResolver, Outcome};
 
 // Where a prefix and a value stand in the caller's own bytes: what 12 to 15 hold.
 #[derive(Clone, Copy)]
@@ -25,44 +25,36 @@ pub struct Places {
     pub value_end: usize,
 }
 
-// What the prefix and the value of a declaration say by themselves: an answer that leaves the resolver as it is, or a
-// binding to be added, under so many bytes of the prefix.
-#[derive(Clone, Copy)]
-pub enum Judged {
-    Keep(NamespaceResult),
-    Bind(usize),
-}
-
 // Refusals 12 to 15, and the two declarations that add nothing: the arms of `NamespaceResolver::add`, src/name.rs, before
-// the limit is looked at.
+// the limit is looked at. What is left is a binding to be added, under so many bytes of the prefix, if any.
 pub fn judge<'a>(
-    declares: PrefixDeclaration,
+    declares: Option<PrefixDeclaration>,
     prefix: &'a [u8],
     value: &'a [u8],
     at: Places,
-) -> Judged
+) -> Result<Option<usize>, NamespaceError>
     ensures { result ≡ judge_of declares prefix.now value.now at }
 {
     match declares {
-        PrefixDeclaration::Nothing => return Judged::Keep(NamespaceResult::Done),
-        PrefixDeclaration::Default => return Judged::Bind(0),
-        PrefixDeclaration::Named => {}
+        None => return Ok(None),
+        Some(PrefixDeclaration::Default) => return Ok(Some(0)),
+        Some(PrefixDeclaration::Named) => {}
     }
     let check = name::check_named(prefix, value);
     match check {
-        NamedCheck::Fine => Judged::Bind(prefix.len()),
-        NamedCheck::AddsNothing => Judged::Keep(NamespaceResult::Done),
-        NamedCheck::InvalidXmlPrefixBind => {
-            Judged::Keep(NamespaceResult::InvalidXmlPrefixBind(at.value_start, at.value_end))
+        Ok(true) => Ok(Some(prefix.len())),
+        Ok(false) => Ok(None),
+        Err(ReservedBinding::InvalidXmlPrefixBind) => {
+            Err(NamespaceError::InvalidXmlPrefixBind(at.value_start, at.value_end))
         }
-        NamedCheck::InvalidXmlnsPrefixBind => {
-            Judged::Keep(NamespaceResult::InvalidXmlnsPrefixBind(at.value_start, at.value_end))
+        Err(ReservedBinding::InvalidXmlnsPrefixBind) => {
+            Err(NamespaceError::InvalidXmlnsPrefixBind(at.value_start, at.value_end))
         }
-        NamedCheck::InvalidPrefixForXml => {
-            Judged::Keep(NamespaceResult::InvalidPrefixForXml(at.prefix_start, at.prefix_end))
+        Err(ReservedBinding::InvalidPrefixForXml) => {
+            Err(NamespaceError::InvalidPrefixForXml(at.prefix_start, at.prefix_end))
         }
-        NamedCheck::InvalidPrefixForXmlns => {
-            Judged::Keep(NamespaceResult::InvalidPrefixForXmlns(at.prefix_start, at.prefix_end))
+        Err(ReservedBinding::InvalidPrefixForXmlns) => {
+            Err(NamespaceError::InvalidPrefixForXmlns(at.prefix_start, at.prefix_end))
         }
     }
 }
@@ -73,7 +65,7 @@ pub fn declare_in<'a>(
     records: &mut [usize],
     head: Head,
     room: Room,
-    declares: PrefixDeclaration,
+    declares: Option<PrefixDeclaration>,
     prefix: &'a [u8],
     value: &'a [u8],
     at: Places,
@@ -82,13 +74,16 @@ pub fn declare_in<'a>(
     ensures { given result.answer text.new records.new result.head
         ≡ lent_of (declare_of room declares prefix.now value.now at) text.old records.old head }
 {
-    let judged = judge(declares, prefix, value, at);
-    match judged {
-        Judged::Keep(answer) => Outcome {
-            answer: answer,
-            head: head,
+    match judge(declares, prefix, value, at) {
+        Err(error) => Outcome {
+            answer: Err(error),
+            head,
         },
-        Judged::Bind(n) => {
+        Ok(None) => Outcome {
+            answer: Ok(()),
+            head,
+        },
+        Ok(Some(n)) => {
             let bound = &prefix[..n];
             scope_change::append_in(text, records, head, room, bound, value)
         }
@@ -100,28 +95,18 @@ pub fn add_in<'a>(
     text: &mut [u8],
     records: &mut [usize],
     head: Head,
-    declares: PrefixDeclaration,
+    declares: Option<PrefixDeclaration>,
     prefix: &'a [u8],
     value: &'a [u8],
 ) -> Outcome
     ensures { given result.answer text.new records.new result.head
         ≡ lent_of (add_of declares prefix.now value.now) text.old records.old head }
 {
-    let found = scope_table::form_in(text, records, head);
-    match found {
-        Form::Good => {}
-        Form::Bad => {
-            return Outcome {
-                answer: NamespaceResult::BadResolver,
-                head: head,
-            };
-        }
-        Form::WrongLength => {
-            return Outcome {
-                answer: NamespaceResult::WrongLength,
-                head: head,
-            };
-        }
+    if let Err(wrong) = scope_table::form_in(text, records, head) {
+        return Outcome {
+            answer: Err(NamespaceError::from(wrong)),
+            head,
+        };
     }
     let at = Places {
         prefix_start: 0,
@@ -141,28 +126,20 @@ pub fn pop_in(text: &mut [u8], records: &mut [usize], head: Head) -> Outcome
     ensures { given result.answer text.new records.new result.head
         ≡ lent_of pop_of text.old records.old head }
 {
-    let found = scope_table::form_in(text, records, head);
-    let level = head.level;
-    match found {
-        Form::WrongLength => Outcome {
-            answer: NamespaceResult::WrongLength,
-            head: head,
-        },
-        Form::Bad => Outcome {
-            answer: NamespaceResult::BadResolver,
-            head: head,
-        },
-        Form::Good => {
-            let to = scope_table::saturating_sub(level, 1);
-            scope_change::clear_above_in(text, records, head, to)
-        }
+    if let Err(wrong) = scope_table::form_in(text, records, head) {
+        return Outcome {
+            answer: Err(NamespaceError::from(wrong)),
+            head,
+        };
     }
+    let to = scope_table::saturating_sub(head.level, 1);
+    scope_change::clear_above_in(text, records, head, to)
 }
 
 // `NamespaceResolver::add`, src/name.rs.
 pub fn add<'a>(
     r: NamespaceResolver,
-    declares: PrefixDeclaration,
+    declares: Option<PrefixDeclaration>,
     prefix: &'a [u8],
     value: &'a [u8],
 ) -> Changed
@@ -175,10 +152,10 @@ pub fn add<'a>(
     let answer = out.answer;
     let left = out.head;
     Changed {
-        answer: answer,
+        answer,
         resolver: NamespaceResolver {
-            text: text,
-            records: records,
+            text,
+            records,
             head: left,
         },
     }
@@ -195,10 +172,10 @@ pub fn set_level(r: NamespaceResolver, to: u16) -> Changed
     let answer = out.answer;
     let left = out.head;
     Changed {
-        answer: answer,
+        answer,
         resolver: NamespaceResolver {
-            text: text,
-            records: records,
+            text,
+            records,
             head: left,
         },
     }
@@ -215,10 +192,10 @@ pub fn pop(r: NamespaceResolver) -> Changed
     let answer = out.answer;
     let left = out.head;
     Changed {
-        answer: answer,
+        answer,
         resolver: NamespaceResolver {
-            text: text,
-            records: records,
+            text,
+            records,
             head: left,
         },
     }

@@ -13,10 +13,10 @@ ghost use Rattle.scope_declare.specs.Declare.{add_of, pop_of, limited_of};
 ghost use Rattle.scope_push.specs.Push.{push_of};
 
 use name::PrefixDeclaration;
-use scope_table::{NamespaceResolver, NamespaceResult};
+use scope_table::{NamespaceError, NamespaceResolver};
 
 // `NamespaceResolver::set_level`, src/name.rs.
-pub fn set_level(r: &mut NamespaceResolver, level: u16) -> NamespaceResult
+pub fn set_level(r: &mut NamespaceResolver, level: u16) -> Result<(), NamespaceError>
     ensures { numbered_change (changed result r.new) ≡ numbered_change (level_of level r.old) }
 {
     let c = scope_declare::set_level(*r, level);
@@ -25,7 +25,7 @@ pub fn set_level(r: &mut NamespaceResolver, level: u16) -> NamespaceResult
 }
 
 // `NamespaceResolver::pop`, src/name.rs.
-pub fn pop(r: &mut NamespaceResolver) -> NamespaceResult
+pub fn pop(r: &mut NamespaceResolver) -> Result<(), NamespaceError>
     ensures { numbered_change (changed result r.new) ≡ numbered_change (pop_of r.old) }
 {
     let c = scope_declare::pop(*r);
@@ -34,7 +34,7 @@ pub fn pop(r: &mut NamespaceResolver) -> NamespaceResult
 }
 
 // `NamespaceResolver::push`, src/name.rs. The attributes of the tag begin at `from`.
-pub fn push(r: &mut NamespaceResolver, tag: &[u8], from: usize) -> NamespaceResult
+pub fn push(r: &mut NamespaceResolver, tag: &[u8], from: usize) -> Result<(), NamespaceError>
     ensures { numbered_change (changed result r.new) ≡ numbered_change (push_of tag.now from r.old) }
 {
     let c = scope_push::push(*r, tag, from);
@@ -45,10 +45,10 @@ pub fn push(r: &mut NamespaceResolver, tag: &[u8], from: usize) -> NamespaceResu
 // `NamespaceResolver::add`, src/name.rs.
 pub fn add<'a>(
     r: &mut NamespaceResolver,
-    declares: PrefixDeclaration,
+    declares: Option<PrefixDeclaration>,
     prefix: &'a [u8],
     value: &'a [u8],
-) -> NamespaceResult
+) -> Result<(), NamespaceError>
     ensures { numbered_change (changed result r.new) ≡ numbered_change (add_of declares prefix.now value.now r.old) }
 {
     let c = scope_declare::add(*r, declares, prefix, value);

@@ -15,10 +15,10 @@ use Rattle.scope_table.specs.Table.{LIMIT, built_in, text_of, level_before, is_r
 use Rattle.scope_table.specs.declared.NamespaceResolver.{NamespaceResolver}
 use Rattle.scope_table.proofs.Good.{form_of_lem, lies}
 use Rattle.scope_lookup.specs.Lookup.{has_prefix, is_default, resolve_prefix_of}
-use Rattle.scope_lookup.specs.declared.Resolved.TheVariants.{Bound}
-use Rattle.scope_listing.specs.Listing.{has_value, is_overridden, in_effect, at_level, shown_of, listed_at, past_built_in, bindings_of, bindings_at_of}
+use Rattle.std.specs.Prelude.{Ok}
+use Rattle.scope_lookup.specs.declared.ResolveResult.TheVariants.{Bound}
+use Rattle.scope_listing.specs.Listing.{shows, has_value, is_overridden, in_effect, at_level, shown_of, listed_at, past_built_in, bindings_of, bindings_at_of}
 use Rattle.scope_listing.specs.Whole.{list_all, showing}
-use Rattle.scope_listing.specs.declared.Listed.TheVariants.{Binding}
 use Rattle.scope_listing.proofs.Whole.{lists_in_effect, lists_level, in_effect_resolves}
 use Rattle.scope_listing.proofs.Padded.{pad_in_effect}
 use Rattle.scope_listing.proofs.Marked.{bindings_mark, level_marks}
@@ -38,16 +38,16 @@ unfolding built_in bytes_from bytes
 nested_long = omega arith
 
 -- in effect are the default and the inner `p`
-pub in_effect_instance : list_all (λ place. bindings_of place nested) 7 0 ≡ Binding 73 73 74 ∷ Binding 76 77 78 ∷ []
+pub in_effect_instance : list_all (λ place. bindings_of place nested) 7 0 ≡ shows 73 73 74 ∷ shows 76 77 78 ∷ []
 unfolding first_of first_to part same_bytes bytes_from bytes prefix_in built_in has_prefix has_value is_overridden in_effect shown_of showing
 in_effect_instance = lists_in_effect nested nested_valid 0
 
 -- at level 1 also the `p` that is overridden
-pub level_instance : list_all (λ place. bindings_at_of 1 place nested) 7 0 ≡ Binding 73 73 74 ∷ Binding 74 75 76 ∷ []
+pub level_instance : list_all (λ place. bindings_at_of 1 place nested) 7 0 ≡ shows 73 73 74 ∷ shows 74 75 76 ∷ []
 unfolding has_value at_level shown_of showing
 level_instance = lists_level nested 1 nested_valid 0
 
-pub effect_resolves_instance : resolve_prefix_of (bytes "p") true true nested ≡ Bound 77 78
+pub effect_resolves_instance : resolve_prefix_of (bytes "p") true true nested ≡ Ok (Bound 77 78)
 unfolding first_of first_to part same_bytes bytes_from bytes prefix_in built_in has_prefix is_default has_value is_overridden in_effect
 effect_resolves_instance = in_effect_resolves nested nested_valid nested_long 4 (omega arith) refl
 

@@ -8,6 +8,7 @@ use native.Mathlib.Omega.{arith}
 use lib.Dec.{leb, ltb}
 use lib.ListN.{length}
 use borrow.Author.Tests.{leb-true, leb-false}
+use Rattle.std.specs.Prelude.{Ok, Err}
 use Rattle.scan.specs.First.{first_to}
 use Rattle.scan.specs.Bytes.{same_bytes}
 use Rattle.scan.proofs.Laws.{IsFirst, to_first, first_only, to_past}
@@ -17,15 +18,15 @@ use Rattle.scope_table.specs.Table.{TEXT, NUMBERS}
 use Rattle.scope_table.specs.Lent.{lent, form_of}
 use Rattle.scope_table.proofs.Pad.{pad_records}
 use Rattle.scope_table.proofs.Good.{Ready, ready}
-use Rattle.scope_table.proofs.Calls.{asks_bad, asks_good}
+use Rattle.scope_table.proofs.Calls.{asks_bad, asks_good, asks_wrong}
 use Rattle.scope_table.specs.declared.Head.{Head}
 use Rattle.scope_table.specs.declared.NamespaceBinding.{NamespaceBinding}
 use Rattle.scope_table.specs.declared.NamespaceResolver.{NamespaceResolver}
-use Rattle.scope_table.specs.declared.Form.TheVariants as Is
+use Rattle.scope_table.specs.declared.FormError.{FormError}
+use Rattle.scope_table.specs.declared.FormError.TheVariants as Is
 use Rattle.scope_lookup.specs.Lookup.{has_prefix}
 use Rattle.scope_lookup.proofs.Padded.{pad_prefix, ready_inside}
 use Rattle.scope_listing.specs.Listing.{Rising, listing, is_overridden, in_effect, at_level, listed_at, past_built_in, bindings_of, bindings_at_of}
-use Rattle.scope_listing.specs.declared.Listed.TheVariants.{BadResolver, WrongLength}
 use Rattle.scope_listing.specs.declared.Listing.{Listing}
 
 -- tests that agree below n have the same first one
@@ -75,17 +76,21 @@ module _ (text records : List ℕ) (head : Head) (place : ℕ) where
       listed_at (record_at x.records) x.head.count
       (first_to (in_effect x.text (record_at x.records) x.head.count) (past_built_in place) x.head.count) place
 
-  pub listing_bad : form_of text records head ≡ Is.Bad → listing BadResolver place ≡ lent (listing WrongLength place) (bindings_of place) text records head
+  listing_bad : form_of text records head ≡ Err Is.BadResolver → listing (Err Is.BadResolver) place ≡ lent (listing (Err Is.WrongLength) place) (bindings_of place) text records head
   unfolding bindings_of shown_in_lem
-  listing_bad e = sym (asks_bad text records head (listing WrongLength place) shown_in_lem (λ x. listing BadResolver place) e)
+  listing_bad e = sym (asks_bad text records head (listing (Err Is.WrongLength) place) shown_in_lem (λ x. listing (Err Is.BadResolver) place) e)
 
-  pub listing_good : form_of text records head ≡ Is.Good →
+  pub listing_refused : (why : FormError) → form_of text records head ≡ Err why → listing (Err why) place ≡ lent (listing (Err Is.WrongLength) place) (bindings_of place) text records head
+  listing_refused Is.BadResolver e = listing_bad e
+  listing_refused Is.WrongLength e = sym (asks_wrong text records head (listing (Err Is.WrongLength) place) (bindings_of place) e)
+
+  pub listing_good : form_of text records head ≡ Ok tt →
       listed_at (record_at records) head.count (first_to (in_effect text (record_at records) head.count) (past_built_in place) head.count) place
-      ≡ lent (listing WrongLength place) (bindings_of place) text records head
+      ≡ lent (listing (Err Is.WrongLength) place) (bindings_of place) text records head
   unfolding bindings_of shown_in_lem
   listing_good e =
       let i = ready_inside text records head (ready text records head e) in
-      sym (asks_good text records head (listing WrongLength place) shown_in_lem (λ x. listing BadResolver place) e
+      sym (asks_good text records head (listing (Err Is.WrongLength) place) shown_in_lem (λ x. listing (Err Is.BadResolver) place) e
       ∙ ap (λ (rows : ℕ → NamespaceBinding). listed_at rows head.count (first_to (in_effect (pad_to TEXT text) rows head.count) (past_built_in place) head.count) place) (pad_records NUMBERS records)
       ∙ ap (λ (found : ℕ). listed_at (record_at records) head.count found place) (pad_in_effect TEXT text (record_at records) head.count i.each (past_built_in place)))
 
@@ -95,14 +100,18 @@ module _ (text records : List ℕ) (head : Head) (place : ℕ) where
         listed_at (record_at x.records) x.head.count
         (first_to (λ i. at_level asked (record_at x.records i)) place x.head.count) place
 
-    pub level_bad : form_of text records head ≡ Is.Bad → listing BadResolver place ≡ lent (listing WrongLength place) (bindings_at_of asked place) text records head
+    level_bad : form_of text records head ≡ Err Is.BadResolver → listing (Err Is.BadResolver) place ≡ lent (listing (Err Is.WrongLength) place) (bindings_at_of asked place) text records head
     unfolding bindings_at_of level_in
-    level_bad e = sym (asks_bad text records head (listing WrongLength place) level_in (λ x. listing BadResolver place) e)
+    level_bad e = sym (asks_bad text records head (listing (Err Is.WrongLength) place) level_in (λ x. listing (Err Is.BadResolver) place) e)
 
-    pub level_good : form_of text records head ≡ Is.Good →
+    pub level_refused : (why : FormError) → form_of text records head ≡ Err why → listing (Err why) place ≡ lent (listing (Err Is.WrongLength) place) (bindings_at_of asked place) text records head
+    level_refused Is.BadResolver e = level_bad e
+    level_refused Is.WrongLength e = sym (asks_wrong text records head (listing (Err Is.WrongLength) place) (bindings_at_of asked place) e)
+
+    pub level_good : form_of text records head ≡ Ok tt →
         listed_at (record_at records) head.count (first_to (λ i. at_level asked (record_at records i)) place head.count) place
-        ≡ lent (listing WrongLength place) (bindings_at_of asked place) text records head
+        ≡ lent (listing (Err Is.WrongLength) place) (bindings_at_of asked place) text records head
     unfolding bindings_at_of level_in
     level_good e =
-        sym (asks_good text records head (listing WrongLength place) level_in (λ x. listing BadResolver place) e
+        sym (asks_good text records head (listing (Err Is.WrongLength) place) level_in (λ x. listing (Err Is.BadResolver) place) e
         ∙ ap (λ (rows : ℕ → NamespaceBinding). listed_at rows head.count (first_to (λ i. at_level asked (rows i)) place head.count) place) (pad_records NUMBERS records))

@@ -23,12 +23,11 @@ use Rattle.scope_table.specs.declared.NamespaceBinding.{NamespaceBinding}
 use Rattle.scope_table.specs.declared.NamespaceResolver.{NamespaceResolver}
 use Rattle.scope_table.specs.Lists.{last_below}
 use Rattle.scope_lookup.specs.Lookup.{has_prefix, is_default, value_or, explicit_of, default_of, among_of, resolve_prefix_of}
-use Rattle.scope_lookup.specs.declared.Resolved.{Resolved}
-use Rattle.scope_lookup.specs.declared.Resolved.TheVariants.{Bound, Unbound, Unknown}
-use Rattle.scope_listing.specs.Listing.{listing, has_value, is_overridden, in_effect, at_level, shown_of, listed_at, past_built_in, bindings_of, bindings_at_of}
+use Rattle.scope_lookup.specs.declared.ResolveResult.{ResolveResult}
+use Rattle.scope_lookup.specs.declared.ResolveResult.TheVariants.{Bound, Unbound, Unknown}
+use Rattle.scope_listing.specs.Listing.{Listed, listing, has_value, is_overridden, in_effect, at_level, shown_of, listed_at, past_built_in, bindings_of, bindings_at_of}
 use Rattle.scope_listing.specs.Whole.{is_last, list_all, showing, ListsInEffect, ListsLevel, EffectResolves}
-use Rattle.scope_listing.specs.declared.Listed.{Listed}
-use Rattle.scope_listing.specs.declared.Listed.TheVariants.{End}
+use Rattle.std.specs.Prelude.{None, Ok}
 use Rattle.scope_listing.specs.declared.Listing.{Listing}
 
 -- The first record that passes, and the rest.
@@ -97,7 +96,7 @@ module _ (rows : ℕ → NamespaceBinding) (p : ℕ → Bool) where
         ∙ sym (some_by (from place) a l)
     list_by n place later h false e =
         let r = first_to p (from place) count in
-        let s : step place ≡ listing End place = is place ∙ rw e in
+        let s : step place ≡ listing (Ok None) place = is place ∙ rw e in
         ap (λ (y : Listing). pick (is_last y.answer) [] (y.answer ∷ list_all step n y.place)) s
         ∙ sym (none_by (from place) (leb (from place) count) refl (ltb-false r count e))
 
@@ -171,7 +170,7 @@ module _ (x : NamespaceResolver) (v : valid_of x ≡ true) (w : x.head.used ≤ 
   unfolding like has_prefix
   itself = same_refl (prefix_in x.text (row i))
 
-  value_is : (other : Resolved) → value_or row other (suc i) ≡ Bound (value_start (row i)) (value_end (row i))
+  value_is : (other : ResolveResult) → value_or row other (suc i) ≡ Bound (value_start (row i)) (value_end (row i))
   unfolding value_or
   value_is other = rw has_value_lem
 
@@ -203,9 +202,9 @@ module _ (x : NamespaceResolver) (v : valid_of x ≡ true) (w : x.head.used ≤ 
       rw (ne_eqb (length (prefix_in x.text (row i))) 0 (some_length n))
       (ap (value_or row (Unknown 0 (length (prefix_in x.text (row i))))) (last_is like i x.head.count h itself no_later) ∙ value_is (Unknown 0 (length (prefix_in x.text (row i)))))
 
-  effect_resolves : resolve_prefix_of (prefix_in x.text (row i)) (not (is_default (row i))) true x ≡ Bound (value_start (row i)) (value_end (row i))
+  effect_resolves : resolve_prefix_of (prefix_in x.text (row i)) (not (is_default (row i))) true x ≡ Ok (Bound (value_start (row i)) (value_end (row i)))
   unfolding resolve_prefix_of row
-  effect_resolves = rw v (resolves_by (is_default (row i)) refl)
+  effect_resolves = rw v (ap (λ (r : ResolveResult). Ok r) (resolves_by (is_default (row i)) refl))
 
 pub in_effect_resolves : (x : NamespaceResolver) → valid_of x ≡ true → x.head.used ≤ length x.text → EffectResolves x
 unfolding row

@@ -1,22 +1,19 @@
 -- A whole listing: a caller goes on from place to place until the end.
-use Rattle.std.specs.Prelude.{ℕ, zero, suc, ◌+◌, ◌-◌, ◌<◌, ◌≡◌, Bool, true, false, not, List, [], ◌∷◌}
+use Rattle.std.specs.Prelude.{ℕ, zero, suc, ◌+◌, ◌-◌, ◌<◌, ◌≡◌, Bool, true, false, not, List, [], ◌∷◌, Some, None, Ok, Err}
 use Rattle.scan.specs.First.{pick}
 use Rattle.scope_table.specs.Records.{record_at, value_start, value_end, prefix_in}
 use Rattle.scope_table.specs.declared.NamespaceBinding.{NamespaceBinding}
 use Rattle.scope_table.specs.declared.NamespaceResolver.{NamespaceResolver}
 use Rattle.scope_lookup.specs.Lookup.{is_default, resolve_prefix_of}
-use Rattle.scope_lookup.specs.declared.Resolved.TheVariants.{Bound}
-use Rattle.scope_listing.specs.Listing.{in_effect, at_level, shown_of, bindings_of, bindings_at_of}
-use Rattle.scope_listing.specs.declared.Listed.{Listed}
-use Rattle.scope_listing.specs.declared.Listed.TheVariants.{Binding, End, BadResolver, WrongLength}
+use Rattle.scope_lookup.specs.declared.ResolveResult.TheVariants.{Bound}
+use Rattle.scope_listing.specs.Listing.{Listed, in_effect, at_level, shown_of, bindings_of, bindings_at_of}
 use Rattle.scope_listing.specs.declared.Listing.{Listing}
 
 -- whether this is the end of a listing
 unfoldable pub is_last : Listed → Bool
-is_last (Binding a m e) = false
-is_last End = true
-is_last BadResolver = false
-is_last WrongLength = false
+is_last (Ok (Some b)) = false
+is_last (Ok None) = true
+is_last (Err why) = false
 
 -- what the steps of a listing show from a place on, up to the end and at most n
 unfoldable pub list_all : (step : ℕ → Listing) (n place : ℕ) → List Listed
@@ -50,4 +47,4 @@ abbrev pub EffectResolves : NamespaceResolver → Type 0
 EffectResolves x =
     let rows = record_at x.records in
     (i : ℕ) → i < x.head.count → in_effect x.text rows x.head.count i ≡ true →
-    resolve_prefix_of (prefix_in x.text (rows i)) (not (is_default (rows i))) true x ≡ Bound (value_start (rows i)) (value_end (rows i))
+    resolve_prefix_of (prefix_in x.text (rows i)) (not (is_default (rows i))) true x ≡ Ok (Bound (value_start (rows i)) (value_end (rows i)))

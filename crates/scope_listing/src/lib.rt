@@ -5,35 +5,31 @@
 // form of the resolver first (refusal 20); what they call asks for it, and what takes an answer has no resolver to test.
 #![tactic(auto)]
 
-ghost use Rattle.std.specs.Prelude.{◌≡◌, ◌<◌, [], ◌∷◌, length, eqb};
-ghost use Rattle.scan.specs.First.{pick, first_to};
+ghost use Rattle.std.specs.Prelude.{◌≡◌, Err, ◌<◌, [], ◌∷◌, length, eqb};
+ghost use Rattle.scan.specs.First.{pick};
 ghost use Rattle.scope_table.specs.Records.{record_at};
 ghost use Rattle.scope_table.specs.Table.{TEXT};
 ghost use Rattle.scope_table.specs.Lent.{lent};
 ghost use Rattle.scope_lookup.specs.Inside.{Inside};
-ghost use Rattle.scope_lookup.specs.Lookup.{has_prefix};
-ghost use Rattle.scope_listing.specs.Listing.{Rising, listing, listed_numbers, numbered_listing, lined_up, in_effect, at_level, listed_at, past_built_in, bindings_of, bindings_at_of};
-ghost use Rattle.scope_listing.specs.declared.Listed.TheVariants.{WrongLength};
+ghost use Rattle.scope_lookup.specs.Lookup.{has_prefix, counted};
+ghost use Rattle.scope_listing.specs.Listing.{Rising, listing, listed_numbers, numbered_listing, lined_up, in_effect, at_level, found_to, shown_at, past_built_in, bindings_of, bindings_at_of};
+ghost use Rattle.scope_table.specs.declared.FormError.TheVariants.{WrongLength};
 
-use scope_table::{Form, Head, NamespaceBinding, NamespaceResolver};
+use scope_table::{FormError, Head, NamespaceBinding, NamespaceResolver};
 
-// What a listing shows.
+// A binding by its bounds in the resolver's text: where its prefix starts, where that ends and its value starts, and where that
+// ends. A default has no prefix, so its first two are equal.
 #[derive(Clone, Copy)]
-pub enum Listed {
-    // a binding: where its prefix starts, where that ends and its value starts, and where that ends. A default has no
-    // prefix, so its first two are equal.
-    Binding(usize, usize, usize),
-    End,
-    // 20
-    BadResolver,
-    // 99: what the head says is in use is not lent, or more than the capacity is
-    WrongLength,
+pub struct Binding {
+    pub prefix_from: usize,
+    pub value_from: usize,
+    pub value_to: usize,
 }
 
-// What a listing shows, and the place to go on from.
+// What a listing shows, a binding or its end, and the place to go on from. Refusals are those of the resolver.
 #[derive(Clone, Copy)]
 pub struct Listing {
-    pub answer: Listed,
+    pub answer: Result<Option<Binding>, FormError>,
     pub place: usize,
 }
 
@@ -55,19 +51,17 @@ fn first_with<'t, 'n>(
     from: usize,
     count: usize,
     prefix: &'n [u8],
-) -> usize
+) -> Option<usize>
     requires { Inside records.now count (length text.now) }
-    ensures { result ≡ first_to (λ j. has_prefix text.now prefix.now (record_at records.now j)) from count }
+    ensures { result ≡ found_to (λ j. has_prefix text.now prefix.now (record_at records.now j)) from count }
 {
-    let mut i = from;
-    while i < count {
+    for i in from..count {
         let b = scope_table::record_at(records, i);
         if scan::same(b.prefix(text), prefix) {
-            return i;
+            return Some(i);
         }
-        i += 1;
     }
-    i
+    None
 }
 
 // Whether a binding is in effect: `NamespaceBindingsIter::next`, src/name.rs, for one record.
@@ -79,110 +73,111 @@ fn in_effect<'t>(text: &'t [u8], records: &'t [usize], count: usize, i: usize) -
     if b.value_len == 0 {
         return false;
     }
-    count <= first_with(text, records, i + 1, count, b.prefix(text))
+    first_with(text, records, i + 1, count, b.prefix(text)).is_none()
 }
 
 // Whether a binding is one of this level, and not empty: `NamespaceBindingsOfLevelIter::next`, src/name.rs, for one record.
+#[tactic(auto, unfolding(crate::specs::Listing::at_level, crate::specs::Listing::has_value))]
 fn at_level(b: NamespaceBinding, asked: usize) -> bool
     ensures { result ≡ at_level asked b }
 {
-    if b.level != asked {
-        return false;
-    }
-    b.value_len != 0
+    b.level == asked && b.value_len != 0
 }
 
 // The first binding in effect at or after `from`.
-fn first_in_effect<'t>(text: &'t [u8], records: &'t [usize], from: usize, count: usize) -> usize
+fn first_in_effect<'t>(
+    text: &'t [u8],
+    records: &'t [usize],
+    from: usize,
+    count: usize,
+) -> Option<usize>
     requires { Inside records.now count (length text.now) }
-    ensures { result ≡ first_to (in_effect text.now (record_at records.now) count) from count }
+    ensures { result ≡ found_to (in_effect text.now (record_at records.now) count) from count }
 {
-    let mut i = from;
-    while i < count {
+    for i in from..count {
         if in_effect(text, records, count, i) {
-            return i;
+            return Some(i);
         }
-        i += 1;
     }
-    i
+    None
 }
 
 // The first nonempty binding of this level at or after `from`. Levels never fall along the table, so the first higher one
 // ends the search, as it does in the crate.
-fn first_at_level(records: &[usize], asked: usize, from: usize, count: usize) -> usize
+fn first_at_level(records: &[usize], asked: usize, from: usize, count: usize) -> Option<usize>
     requires { Rising records.now count }
-    ensures { result ≡ first_to (λ i. at_level asked (record_at records.now i)) from count }
+    ensures { result ≡ found_to (λ i. at_level asked (record_at records.now i)) from count }
 {
-    let mut i = from;
-    while i < count {
+    for i in from..count {
         let b = scope_table::record_at(records, i);
         if asked < b.level {
-            return count;
+            return None;
         }
         if at_level(b, asked) {
-            return i;
+            return Some(i);
         }
-        i += 1;
     }
-    i
+    None
 }
 
 // A record that was found is shown, and the place put past it; else this is the end, and the place stays.
-fn shown(records: &[usize], count: usize, found: usize, place: usize) -> Listing
-    requires { Inside records.now count TEXT }
-    ensures { result ≡ listed_at (record_at records.now) count found place }
+#[tactic(auto, unfolding(crate::specs::Listing::shown_of))]
+fn shown(records: &[usize], found: Option<usize>, place: usize) -> Listing
+    requires { Inside records.now (counted found) TEXT }
+    ensures { result ≡ shown_at (record_at records.now) found place }
 {
-    if found < count {
-        let b = scope_table::record_at(records, found);
-        let middle = b.start + b.prefix_len;
+    let Some(i) = found else {
         return Listing {
-            answer: Listed::Binding(b.start, middle, middle + b.value_len),
-            place: found + 1,
+            answer: Ok(None),
+            place,
         };
-    }
+    };
+    let b = scope_table::record_at(records, i);
+    let middle = b.start + b.prefix_len;
+    let binding = Binding {
+        prefix_from: b.start,
+        value_from: middle,
+        value_to: middle + b.value_len,
+    };
     Listing {
-        answer: Listed::End,
-        place: place,
+        answer: Ok(Some(binding)),
+        place: i + 1,
     }
 }
 
 // 2 for a place below it: `bindings` never shows the built-ins.
+#[tactic(auto, unfolding(crate::specs::Listing::past_built_in))]
 fn past_built_in(place: usize) -> usize
     ensures { result ≡ past_built_in place }
 {
-    if place < 2 {
-        return 2;
-    }
-    place
+    place.max(2)
 }
 
 // The numbers of what a listing shows.
-pub fn listed_numbers(shown: Listed) -> LinedUp
+#[tactic(auto, unfolding(crate::specs::Listing::listed_numbers))]
+pub fn listed_numbers(shown: Result<Option<Binding>, FormError>) -> LinedUp
     ensures { result ≡ lined_up (listed_numbers shown) }
 {
     match shown {
-        Listed::Binding(a, m, e) => lined_up(kind(a, m), a, m, e),
-        Listed::End => lined_up(0, 0, 0, 0),
-        Listed::BadResolver => lined_up(20, 0, 0, 0),
-        Listed::WrongLength => lined_up(99, 0, 0, 0),
+        Ok(Some(b)) => lined_up(kind(b), b.prefix_from, b.value_from, b.value_to),
+        Ok(None) => lined_up(0, 0, 0, 0),
+        Err(FormError::BadResolver) => lined_up(20, 0, 0, 0),
+        Err(FormError::WrongLength) => lined_up(99, 0, 0, 0),
     }
 }
 
 // 1 for a default, whose prefix ends where it starts, and 2 for a named binding.
-fn kind(from: usize, to: usize) -> usize
-    ensures { result ≡ pick (eqb from to) 1 2 }
+fn kind(b: Binding) -> usize
+    ensures { result ≡ pick (eqb b.prefix_from b.value_from) 1 2 }
 {
-    if from == to {
-        return 1;
-    }
-    2
+    if b.prefix_from == b.value_from { 1 } else { 2 }
 }
 
 fn lined_up(number: usize, from: usize, middle: usize, to: usize) -> LinedUp
     ensures { result ≡ lined_up (number ∷ from ∷ middle ∷ middle ∷ to ∷ []) }
 {
     LinedUp {
-        number: number,
+        number,
         prefix_from: from,
         prefix_to: middle,
         value_from: middle,
@@ -192,18 +187,17 @@ fn lined_up(number: usize, from: usize, middle: usize, to: usize) -> LinedUp
 
 // `NamespaceResolver::bindings`, src/name.rs, and one step of its iterator, on lent memory.
 pub fn bindings_in<'t>(text: &'t [u8], records: &'t [usize], head: Head, place: usize) -> Listing
-    ensures { result ≡ lent (listing WrongLength place) (bindings_of place) text.now records.now head }
+    ensures { result ≡ lent (listing (Err WrongLength) place) (bindings_of place) text.now records.now head }
 {
-    let form = scope_table::form_in(text, records, head);
-    match form {
-        Form::Good => {}
-        Form::Bad => return unlisted(Listed::BadResolver, place),
-        Form::WrongLength => return unlisted(Listed::WrongLength, place),
+    if let Err(why) = scope_table::form_in(text, records, head) {
+        return Listing {
+            answer: Err(why),
+            place,
+        };
     }
-    let count = head.count;
     let from = past_built_in(place);
-    let found = first_in_effect(text, records, from, count);
-    shown(records, count, found, place)
+    let found = first_in_effect(text, records, from, head.count);
+    shown(records, found, place)
 }
 
 // `NamespaceResolver::bindings_of`, src/name.rs, and one step of its iterator, on lent memory.
@@ -214,27 +208,16 @@ pub fn bindings_of_in<'t>(
     asked: u16,
     place: usize,
 ) -> Listing
-    ensures { result ≡ lent (listing WrongLength place) (bindings_at_of asked place) text.now records.now head }
+    ensures { result ≡ lent (listing (Err WrongLength) place) (bindings_at_of asked place) text.now records.now head }
 {
-    let form = scope_table::form_in(text, records, head);
-    match form {
-        Form::Good => {}
-        Form::Bad => return unlisted(Listed::BadResolver, place),
-        Form::WrongLength => return unlisted(Listed::WrongLength, place),
+    if let Err(why) = scope_table::form_in(text, records, head) {
+        return Listing {
+            answer: Err(why),
+            place,
+        };
     }
-    let count = head.count;
-    let found = first_at_level(records, asked as usize, place, count);
-    shown(records, count, found, place)
-}
-
-// A refusal: the place stays.
-fn unlisted(answer: Listed, place: usize) -> Listing
-    ensures { result ≡ listing answer place }
-{
-    Listing {
-        answer: answer,
-        place: place,
-    }
+    let found = first_at_level(records, asked as usize, place, head.count);
+    shown(records, found, place)
 }
 
 // `NamespaceResolver::bindings`, src/name.rs: what it shows first at or after a place.

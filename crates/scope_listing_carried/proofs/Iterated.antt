@@ -9,9 +9,8 @@ use Rattle.scan.specs.First.{pick}
 use Rattle.scope_table.specs.Records.{record_at}
 use Rattle.scope_table.specs.Table.{valid_of}
 use Rattle.scope_table.specs.declared.NamespaceResolver.{NamespaceResolver}
-use Rattle.scope_listing.specs.Listing.{in_effect, past_built_in, bindings_of, bindings_at_of}
+use Rattle.scope_listing.specs.Listing.{Listed, in_effect, past_built_in, bindings_of, bindings_at_of}
 use Rattle.scope_listing.specs.Whole.{is_last, list_all}
-use Rattle.scope_listing.specs.declared.Listed.{Listed}
 use Rattle.scope_listing.proofs.Whole.{list_whole, past_on, lists_level}
 use Rattle.scope_listing_carried.specs.Listings.{in_effect_on, level_on, listed_on, listed_on_level, after_shown, after_shown_at, iterated, IteratesInEffect, IteratesLevel}
 use Rattle.scope_listing_carried.specs.declared.NamespaceBindingsIter.{NamespaceBindingsIter}

@@ -4,9 +4,8 @@ use Rattle.std.specs.Borrow.{Bor}
 use Rattle.scan.specs.First.{pick}
 use Rattle.scope_table.specs.Records.{record_at}
 use Rattle.scope_table.specs.declared.NamespaceResolver.{NamespaceResolver}
-use Rattle.scope_listing.specs.Listing.{in_effect, at_level, bindings_of, bindings_at_of}
+use Rattle.scope_listing.specs.Listing.{Listed, in_effect, at_level, bindings_of, bindings_at_of}
 use Rattle.scope_listing.specs.Whole.{is_last, showing}
-use Rattle.scope_listing.specs.declared.Listed.{Listed}
 use Rattle.scope_listing.specs.declared.Listing.{Listing}
 use Rattle.scope_listing_carried.specs.declared.NamespaceBindingsIter.{NamespaceBindingsIter}
 use Rattle.scope_listing_carried.specs.declared.NamespaceBindingsOfLevelIter.{NamespaceBindingsOfLevelIter}

@@ -10,8 +10,8 @@ ghost use Rattle.std.specs.Prelude.{◌≡◌};
 ghost use Rattle.scope_listing.specs.Listing.{listed_numbers};
 ghost use Rattle.scope_listing_carried.specs.Listings.{in_effect_on, level_on, listed_on, listed_on_level, after_shown, after_shown_at};
 
-use scope_listing::Listed;
-use scope_table::NamespaceResolver;
+use scope_listing::Binding;
+use scope_table::{FormError, NamespaceResolver};
 
 // A resolver, and the place where its listing goes on.
 #[derive(Clone, Copy)]
@@ -33,7 +33,7 @@ pub fn bindings<'a>(resolver: &'a NamespaceResolver) -> NamespaceBindingsIter<'a
     ensures { result ≡ in_effect_on resolver.entry }
 {
     NamespaceBindingsIter {
-        resolver: resolver,
+        resolver,
         cursor: 2,
     }
 }
@@ -46,15 +46,15 @@ pub fn bindings_of<'a>(
     ensures { result ≡ level_on resolver.entry level }
 {
     NamespaceBindingsOfLevelIter {
-        resolver: resolver,
+        resolver,
         cursor: 0,
-        level: level,
+        level,
     }
 }
 
 impl<'a> NamespaceBindingsIter<'a> {
     // The next binding, and the iterator moves on past it: `next` of the `Iterator` that this is.
-    pub fn next(&mut self) -> Listed
+    pub fn next(&mut self) -> Result<Option<Binding>, FormError>
         ensures { (listed_numbers result ≡ listed_numbers (listed_on self.old).answer) × (self.new ≡ after_shown self.old) }
     {
         let found = scope_listing::bindings(*self.resolver, self.cursor);
@@ -65,7 +65,7 @@ impl<'a> NamespaceBindingsIter<'a> {
 
 impl<'a> NamespaceBindingsOfLevelIter<'a> {
     // The next binding of the level, and the iterator moves on past it: `next` of the `Iterator` that this is.
-    pub fn next(&mut self) -> Listed
+    pub fn next(&mut self) -> Result<Option<Binding>, FormError>
         ensures { (listed_numbers result ≡ listed_numbers (listed_on_level self.old).answer) × (self.new ≡ after_shown_at self.old) }
     {
         let found = scope_listing::bindings_of(*self.resolver, self.level, self.cursor);

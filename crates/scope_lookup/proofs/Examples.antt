@@ -16,7 +16,7 @@ use Rattle.scope_table.specs.declared.NamespaceResolver.{NamespaceResolver}
 use Rattle.scope_table.proofs.Good.{form_of_lem, lies}
 use Rattle.scope_lookup.specs.Lookup.{has_prefix, is_default, value_or, explicit_of, default_of, among_of, resolve_prefix_of, resolve_of}
 use Rattle.scope_lookup.specs.Marked.{value_nth}
-use Rattle.scope_lookup.specs.declared.Resolved.TheVariants.{Bound}
+use Rattle.scope_lookup.specs.declared.ResolveResult.TheVariants.{Bound}
 use Rattle.scope_lookup.proofs.Marked.{prefix_marks, resolve_marks}
 use Rattle.scope_lookup.proofs.Padded.{pad_among}
 

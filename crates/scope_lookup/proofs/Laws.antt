@@ -1,15 +1,13 @@
--- Laws of a lookup in a table, one for each way through the code, over any rows: a record's prefix beside a name's, the
--- value of a record, and what is no bound or unknown name.
-use Prim.Native.Nat.{ℕ, zero, suc, ◌+◌, ◌-◌, ◌≤◌, ◌<◌}
-use mathlib.Core.Path.{◌≡◌, refl, sym, ap, ◌∙◌}
+-- Laws of a lookup in a table, one for each way through the code, over any rows: a record's prefix beside a name's, and what
+-- is no bound or unknown name.
+use Prim.Native.Nat.{ℕ, ◌+◌, ◌-◌, ◌≤◌, ◌<◌}
+use mathlib.Core.Path.{◌≡◌, sym, ap, ◌∙◌}
 use mathlib.Core.Bool.{true, false}
-use mathlib.Core.List.{List, []}
-use native.Mathlib.Nat.{not-suc-le-zero}
-use native.Mathlib.Numerals.{sub-one}
+use mathlib.Core.List.{List}
 use native.Mathlib.Omega.{arith}
 use lib.ListN.{length, take, get_or}
 use lib.Seq.{length-take-le, get_or-take}
-use borrow.Author.Tests.{eq-eqb, ne_eqb, lt-ltb, le-ltb}
+use borrow.Author.Tests.{lt-ltb, le-ltb}
 use Rattle.scan.specs.Bytes.{part, same_bytes}
 use Rattle.scan.proofs.Bytes.{same_ne, same_length}
 use Rattle.scan.proofs.Lists.{part_length, part_at}
@@ -19,9 +17,7 @@ use Rattle.scope_table.specs.Table.{TEXT}
 use Rattle.scope_table.specs.declared.NamespaceBinding.{NamespaceBinding}
 use Rattle.scope_table.proofs.Rows.{rows_before}
 use Rattle.scope_lookup.specs.Inside.{Inside}
-use Rattle.scope_lookup.specs.Lookup.{has_prefix, bound_by, value_or, uri_part, prefix_part}
-use Rattle.scope_lookup.specs.declared.Resolved.{Resolved}
-use Rattle.scope_lookup.specs.declared.Resolved.TheVariants.{Bound, Unbound, Unknown, BadResolver, WrongLength}
+use Rattle.scope_lookup.specs.Lookup.{has_prefix}
 
 -- what a record in use is read with: its row is lent, and it ends within the text
 module _ (records : List ℕ) (count size i : ℕ) (s : Inside records count size) (h : i < count) where
@@ -56,26 +52,6 @@ module _ (text name : List ℕ) (n : ℕ) (b : NamespaceBinding) (hn : n ≤ len
         ∙ same_ne (part text b.start (b.start + n)) (take n name)
         (λ x. other (ap (λ (k : ℕ). get_or text k 0) (sym a) ∙ sym (part_at text b.start (b.start + n) (n - 1) l) ∙ ap (λ (t : List ℕ). get_or t (n - 1) 0) x ∙ get_or-take n name (n - 1) 0 (omega arith)))
 
--- the value of a record, by its number counted from 1
-module _ (rows : ℕ → NamespaceBinding) (other : Resolved) where
-  pub value_none : (n : ℕ) → n ≡ 0 → other ≡ value_or rows other n
-  unfolding value_or
-  value_none n z = rw z
-
-  pub value_empty : (n : ℕ) → 0 < n → (rows (n - 1)).value_len ≡ 0 → other ≡ value_or rows other n
-  unfolding value_or
-  value_empty zero h e = absurd (not-suc-le-zero h)
-  value_empty (suc j) h e =
-      let k : (rows j).value_len ≡ 0 = rw (sub-one (suc j)) at e in
-      rw (eq-eqb (rows j).value_len 0 k)
-
-  pub value_has : (n : ℕ) → 0 < n → ((rows (n - 1)).value_len ≡ 0 → ⊥) → bound_by (rows (n - 1)) ≡ value_or rows other n
-  unfolding value_or
-  value_has zero h e = absurd (not-suc-le-zero h)
-  value_has (suc j) h e =
-      let k : ((rows j).value_len ≡ 0) → ⊥ = rw (sub-one (suc j)) at e in
-      rw (ne_eqb (rows j).value_len 0 k, sub-one (suc j))
-
 -- fewer records stand within as many bytes
 pub fewer : (records : List ℕ) (m n size : ℕ) → m ≤ n → Inside records n size → Inside records m size
 fewer records m n size h i =
@@ -85,23 +61,6 @@ fewer records m n size h i =
 pub widest : (records : List ℕ) (n size : ℕ) → Inside records n size → Inside records n TEXT
 widest records n size i =
     record { rows = i.rows; small = omega arith; each = λ k l. omega (arith, i.each k l, i.small) }
-
--- What is not bound has no URI, and what is not unknown no prefix.
-pub no_uri : (text : List ℕ) (f : Resolved) → ((a e : ℕ) → f ≡ Bound a e → ⊥) → [] ≡ uri_part text f
-unfolding uri_part
-no_uri text (Bound a e) k = absurd (k a e refl)
-no_uri text Unbound k = refl
-no_uri text (Unknown a e) k = refl
-no_uri text BadResolver k = refl
-no_uri text WrongLength k = refl
-
-pub no_prefix : (name : List ℕ) (f : Resolved) → ((a e : ℕ) → f ≡ Unknown a e → ⊥) → [] ≡ prefix_part name f
-unfolding prefix_part
-no_prefix name (Bound a e) k = refl
-no_prefix name Unbound k = refl
-no_prefix name (Unknown a e) k = absurd (k a e refl)
-no_prefix name BadResolver k = refl
-no_prefix name WrongLength k = refl
 
 -- the first colon as a place: what stands before it is the explicit prefix
 module _ (name : List ℕ) (c : ℕ) (e : c ≡ colon_at name) where

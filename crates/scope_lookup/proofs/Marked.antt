@@ -21,26 +21,27 @@ use Rattle.scope_table.proofs.Good.{form_of_lem, lies}
 use Rattle.scope_table.proofs.Last.{last_within}
 use Rattle.scope_lookup.specs.Lookup.{has_prefix, is_default, value_or, explicit_of, default_of, among_of, resolve_prefix_of, resolve_of}
 use Rattle.scope_lookup.specs.Marked.{last_for, value_nth, MarksFound, PrefixMarks, ResolveMarks}
-use Rattle.scope_lookup.specs.declared.Resolved.{Resolved}
-use Rattle.scope_lookup.specs.declared.Resolved.TheVariants.{Unbound, Unknown}
+use Rattle.std.specs.Prelude.{Ok}
+use Rattle.scope_lookup.specs.declared.ResolveResult.{ResolveResult}
+use Rattle.scope_lookup.specs.declared.ResolveResult.TheVariants.{Unbound, Unknown}
 
 module _ (text name p : List ℕ) (rows : ℕ → NamespaceBinding) (count : ℕ) (within : (k : ℕ) → k < count → value_end (rows k) ≤ length text) (here : Marks name 0 (length p) p) where
-  value_marks : (other : Resolved) → ((uri : List ℕ) → MarksFound text name uri p other) → (n : ℕ) → n ≤ count → MarksFound text name (value_nth text rows n) p (value_or rows other n)
+  value_marks : (other : ResolveResult) → ((uri : List ℕ) → MarksFound text name uri p (Ok other)) → (n : ℕ) → n ≤ count → MarksFound text name (value_nth text rows n) p (Ok (value_or rows other n))
   unfolding value_or value_nth value_in
   value_marks other o zero h = o []
   value_marks other o (suc i) h =
-      picks (MarksFound text name (value_nth text rows (suc i)) p) (eqb (rows i).value_len 0) (λ e. o _)
+      picks (λ (r : ResolveResult). MarksFound text name (value_nth text rows (suc i)) p (Ok r)) (eqb (rows i).value_len 0) (λ e. o _)
       (λ e. record { ahead = omega arith; inside = within i (omega arith); between = refl })
 
-  among_marks : (explicit wanted : Bool) → MarksFound text name (value_nth text rows (last_for text rows count p explicit)) p (among_of text rows count p explicit wanted)
+  among_marks : (explicit wanted : Bool) → MarksFound text name (value_nth text rows (last_for text rows count p explicit)) p (Ok (among_of text rows count p explicit wanted))
   unfolding among_of explicit_of default_of
   among_marks true wanted =
       let like : ℕ → Bool = λ i. has_prefix text p (rows i) in
-      picks (MarksFound text name (value_nth text rows (last_below like count)) p) (eqb (length p) 0) (λ e. here)
+      picks (λ (r : ResolveResult). MarksFound text name (value_nth text rows (last_below like count)) p (Ok r)) (eqb (length p) 0) (λ e. here)
       (λ e. value_marks (Unknown 0 (length p)) (λ uri. here) (last_below like count) (last_within like count))
   among_marks false wanted =
       let none : ℕ → Bool = λ i. is_default (rows i) in
-      picks (MarksFound text name (value_nth text rows (last_below none count)) p) wanted
+      picks (λ (r : ResolveResult). MarksFound text name (value_nth text rows (last_below none count)) p (Ok r)) wanted
       (λ e. value_marks Unbound (λ uri. tt) (last_below none count) (last_within none count)) (λ e. tt)
 
 -- a prefix as a whole, and in its name

@@ -7,6 +7,7 @@ use mathlib.Core.List.{List}
 use native.Mathlib.Omega.{arith}
 use lib.ListN.{length}
 use lib.Seq.{take-length}
+use Rattle.std.specs.Prelude.{Ok, Err}
 use Rattle.scan.specs.Bytes.{same_bytes}
 use Rattle.scan.proofs.Lists.{part_same, pad_take}
 use Rattle.scan.specs.Lists.{pad_to}
@@ -15,16 +16,16 @@ use Rattle.scope_table.specs.Table.{TEXT, NUMBERS}
 use Rattle.scope_table.specs.Lent.{lent, form_of}
 use Rattle.scope_table.proofs.Pad.{pad_records}
 use Rattle.scope_table.proofs.Good.{Ready, ready, lies}
-use Rattle.scope_table.proofs.Calls.{asks_bad, asks_good}
+use Rattle.scope_table.proofs.Calls.{asks_bad, asks_good, asks_wrong}
 use Rattle.scope_table.specs.declared.Head.{Head}
 use Rattle.scope_table.specs.declared.NamespaceBinding.{NamespaceBinding}
 use Rattle.scope_table.specs.declared.NamespaceResolver.{NamespaceResolver}
-use Rattle.scope_table.specs.declared.Form.TheVariants as Is
+use Rattle.scope_table.specs.declared.FormError.{FormError}
+use Rattle.scope_table.specs.declared.FormError.TheVariants as Is
 use Rattle.scope_table.specs.Lists.{last_below}
 use Rattle.scope_lookup.specs.Inside.{Inside}
 use Rattle.scope_lookup.specs.Lookup.{has_prefix, explicit_of, among_of, resolve_prefix_of}
-use Rattle.scope_lookup.specs.declared.Resolved.{Resolved}
-use Rattle.scope_lookup.specs.declared.Resolved.TheVariants.{BadResolver, WrongLength}
+use Rattle.scope_lookup.specs.declared.ResolveResult.{ResolveResult}
 use Rattle.scope_table.proofs.Last.{last_same}
 
 -- the prefix of a record that ends within the lent text
@@ -55,15 +56,19 @@ ready_inside text records head y =
 
 -- A lookup on lent memory: where the form is good it is the lookup in what is lent, and where it is not, refusal 20.
 module _ (text records : List ℕ) (head : Head) (p : List ℕ) (explicit wanted : Bool) where
-  among_in : NamespaceResolver → Resolved
+  among_in : NamespaceResolver → ResolveResult
   among_in x = among_of x.text (record_at x.records) x.head.count p explicit wanted
 
-  pub lookup_bad : form_of text records head ≡ Is.Bad → BadResolver ≡ lent WrongLength (resolve_prefix_of p explicit wanted) text records head
+  lookup_bad : form_of text records head ≡ Err Is.BadResolver → Err Is.BadResolver ≡ lent (Err Is.WrongLength) (resolve_prefix_of p explicit wanted) text records head
   unfolding resolve_prefix_of among_in
-  lookup_bad e = sym (asks_bad text records head WrongLength among_in (λ x. BadResolver) e)
+  lookup_bad e = sym (asks_bad text records head (Err Is.WrongLength) (λ x. Ok (among_in x)) (λ x. Err Is.BadResolver) e)
 
-  pub lookup_good : form_of text records head ≡ Is.Good → among_of text (record_at records) head.count p explicit wanted ≡ lent WrongLength (resolve_prefix_of p explicit wanted) text records head
+  pub lookup_refused : (why : FormError) → form_of text records head ≡ Err why → Err why ≡ lent (Err Is.WrongLength) (resolve_prefix_of p explicit wanted) text records head
+  lookup_refused Is.BadResolver e = lookup_bad e
+  lookup_refused Is.WrongLength e = sym (asks_wrong text records head (Err Is.WrongLength) (resolve_prefix_of p explicit wanted) e)
+
+  pub lookup_good : form_of text records head ≡ Ok tt → Ok (among_of text (record_at records) head.count p explicit wanted) ≡ lent (Err Is.WrongLength) (resolve_prefix_of p explicit wanted) text records head
   unfolding resolve_prefix_of among_in
   lookup_good e =
       let i = ready_inside text records head (ready text records head e) in
-      sym (asks_good text records head WrongLength among_in (λ x. BadResolver) e ∙ ap (λ (rows : ℕ → NamespaceBinding). among_of (pad_to TEXT text) rows head.count p explicit wanted) (pad_records NUMBERS records) ∙ pad_among TEXT text (record_at records) head.count i.each p explicit wanted)
+      sym (asks_good text records head (Err Is.WrongLength) (λ x. Ok (among_in x)) (λ x. Err Is.BadResolver) e ∙ ap (λ (r : ResolveResult). Ok r) (ap (λ (rows : ℕ → NamespaceBinding). among_of (pad_to TEXT text) rows head.count p explicit wanted) (pad_records NUMBERS records) ∙ pad_among TEXT text (record_at records) head.count i.each p explicit wanted))

@@ -10,7 +10,7 @@
 // answer, as `namespace_of`, has no resolver to test.
 #![tactic(auto)]
 
-ghost use Rattle.std.specs.Prelude.{◌≡◌, true, false, ◌≤◌, ◌<◌, length, take};
+ghost use Rattle.std.specs.Prelude.{◌≡◌, Err, true, false, ◌≤◌, ◌<◌, length, take};
 ghost use Rattle.name.specs.Split.{has_colon, prefix_of, local_of};
 ghost use Rattle.scope_table.specs.Lists.{last_below};
 ghost use Rattle.scope_table.specs.Records.{record_at};
@@ -18,104 +18,103 @@ ghost use Rattle.scope_table.specs.Table.{TEXT};
 ghost use Rattle.scope_table.specs.Answer.{told_of};
 ghost use Rattle.scope_table.specs.Lent.{lent};
 ghost use Rattle.scope_lookup.specs.Inside.{Inside};
-ghost use Rattle.scope_lookup.specs.Lookup.{has_prefix, is_default, value_or, explicit_of, default_of, among_of, resolve_prefix_of, resolve_of, uri_part, prefix_part, namespace_of, resolved_numbers, namespace_numbers};
-ghost use Rattle.scope_lookup.specs.declared.Resolved.TheVariants.{WrongLength};
+ghost use Rattle.scope_lookup.specs.Lookup.{has_prefix, is_default, counted, value_or, explicit_of, default_of, among_of, resolve_prefix_of, resolve_of, uri_part, prefix_part, namespace_of, resolved_numbers, namespace_numbers};
+ghost use Rattle.scope_table.specs.declared.FormError.TheVariants.{WrongLength};
+ghost use Rattle.scope_lookup.specs.declared.LookupError.TheVariants.{Form};
 
-use scope_table::{Form, Head, NamespaceResolver, Told};
+use scope_table::{FormError, Head, NamespaceResolver, Told};
 
-// What a name resolves to: `ResolveResult` of src/name.rs, refusal 20, and the answer of lent memory alone. The bounds of
-// `Bound` are in the resolver's text, those of `Unknown` in the name.
+// What a name resolves to: `ResolveResult` of src/name.rs. The bounds of `Bound` are in the resolver's text, those of `Unknown`
+// in the name.
 #[derive(Clone, Copy)]
-pub enum Resolved {
-    // `p:a` within `xmlns:p="v"`, and `a`, as an element, within `xmlns="v"`: where v stands
-    Bound(usize, usize),
+pub enum ResolveResult {
     // `a` with no default, or within `xmlns=""`; as an attribute always
     Unbound,
+    // `p:a` within `xmlns:p="v"`, and `a`, as an element, within `xmlns="v"`: where v stands
+    Bound(usize, usize),
     // `p:a` with no `p`, or within `xmlns:p=""`; `:a` always: where the prefix stands
     Unknown(usize, usize),
-    // 20: a resolver that is not of the form
-    BadResolver,
-    // 99: what the head says is in use is not lent, or more than the capacity is
-    WrongLength,
 }
 
-// What a lookup says of a name's namespace: `Result<Option<Namespace>, NamespaceError>` of src/name.rs.
+// A namespace by where its URI stands in the resolver's text: `Namespace` of src/name.rs.
 #[derive(Clone, Copy)]
-pub enum Namespace {
-    // where the URI stands in the resolver's text
-    Bound(usize, usize),
-    Unbound,
+pub struct Namespace {
+    pub start: usize,
+    pub end: usize,
+}
+
+// Why a lookup tells nothing of a name's namespace: the `NamespaceError` of `TryFrom<ResolveResult>`, src/name.rs, and the
+// refusals of the resolver that was asked.
+#[derive(Clone, Copy)]
+pub enum LookupError {
     // 11: `p:a` where `p` is not bound: where the prefix stands in the name
     UnknownPrefix(usize, usize),
-    // 20
-    BadResolver,
-    // 99
-    WrongLength,
+    // 20, 99
+    Form(FormError),
 }
 
-// The last of the first `count` records with this prefix, the first `len` bytes of the name and not none, as its number counted
-// from 1; 0 where there is none. Lengths are compared first and then the last byte, since prefixes of one document differ most
-// often at their ends: so most records cost no more.
+impl From<FormError> for LookupError {
+    ghost from_gives = { λ e answer. answer ≡ Form e };
+
+    fn from(e: FormError) -> LookupError {
+        LookupError::Form(e)
+    }
+}
+
+// The last of the first `count` records with this prefix, the first `len` bytes of the name and not none. Lengths are compared
+// first and then the last byte, since prefixes of one document differ most often at their ends: so most records cost no more.
 fn last_with<'t, 'n>(
     text: &'t [u8],
     records: &'t [usize],
     count: usize,
     name: &'n [u8],
     len: usize,
-) -> usize
+) -> Option<usize>
     requires { Inside records.now count (length text.now) × (0 < len) × (len ≤ length name.now) }
-    ensures { result ≡ last_below (λ i. has_prefix text.now (take len name.now) (record_at records.now i)) count }
+    ensures { counted result ≡ last_below (λ i. has_prefix text.now (take len name.now) (record_at records.now i)) count }
 {
     let last = name[len - 1];
-    let mut i = count;
-    while 0 < i {
-        i -= 1;
+    for i in (0..count).rev() {
         let b = scope_table::record_at(records, i);
-        if b.prefix_len != len {
-            continue;
-        }
-        let from = b.start;
-        if text[from + len - 1] != last {
-            continue;
-        }
-        if scan::same_start(text, from, name, len) {
-            return i + 1;
+        if b.prefix_len == len
+            && text[b.start + len - 1] == last
+            && scan::same_start(text, b.start, name, len)
+        {
+            return Some(i);
         }
     }
-    0
+    None
 }
 
 // The same for the last default.
-fn last_default(records: &[usize], count: usize) -> usize
+fn last_default(records: &[usize], count: usize) -> Option<usize>
     requires { Inside records.now count TEXT }
-    ensures { result ≡ last_below (λ i. is_default (record_at records.now i)) count }
+    ensures { counted result ≡ last_below (λ i. is_default (record_at records.now i)) count }
 {
-    let mut i = count;
-    while 0 < i {
-        let k = i - 1;
-        let b = scope_table::record_at(records, k);
-        if b.prefix_len == 0 {
-            return i;
+    for i in (0..count).rev() {
+        if scope_table::record_at(records, i).prefix_len == 0 {
+            return Some(i);
         }
-        i = k;
     }
-    0
+    None
 }
 
-// The value of the n-th record, or `other` where n is 0 or the value is empty: `NamespaceBinding::namespace`, src/name.rs.
-fn value_or(records: &[usize], other: Resolved, n: usize) -> Resolved
-    requires { Inside records.now n TEXT }
-    ensures { result ≡ value_or (record_at records.now) other n }
+// The value of the record that was found, or `other` where there is none or the value is empty: `NamespaceBinding::namespace`,
+// src/name.rs.
+#[tactic(auto, unfolding(crate::specs::Lookup::value_or))]
+fn value_or(records: &[usize], other: ResolveResult, found: Option<usize>) -> ResolveResult
+    requires { Inside records.now (counted found) TEXT }
+    ensures { result ≡ value_or (record_at records.now) other (counted found) }
 {
-    if n == 0 {
+    let Some(i) = found else {
         return other;
-    }
-    let b = scope_table::record_at(records, n - 1);
+    };
+    let b = scope_table::record_at(records, i);
     if b.value_len == 0 {
         return other;
     }
     let from = b.start + b.prefix_len;
-    Resolved::Bound(from, from + b.value_len)
+    ResolveResult::Bound(from, from + b.value_len)
 }
 
 // An explicit prefix: the first `len` bytes of the name.
@@ -125,28 +124,28 @@ fn explicit<'t, 'n>(
     count: usize,
     name: &'n [u8],
     len: usize,
-) -> Resolved
+) -> ResolveResult
     requires { Inside records.now count (length text.now) × (len ≤ length name.now) }
     ensures { result ≡ explicit_of text.now (record_at records.now) count (take len name.now) }
 {
-    let unknown = Resolved::Unknown(0, len);
+    let unknown = ResolveResult::Unknown(0, len);
     if len == 0 {
         return unknown;
     }
-    let n = last_with(text, records, count, name, len);
-    value_or(records, unknown, n)
+    let found = last_with(text, records, count, name, len);
+    value_or(records, unknown, found)
 }
 
 // No prefix.
-fn default(records: &[usize], count: usize, wanted: bool) -> Resolved
+fn default(records: &[usize], count: usize, wanted: bool) -> ResolveResult
     requires { Inside records.now count TEXT }
     ensures { result ≡ default_of (record_at records.now) count wanted }
 {
     if !wanted {
-        return Resolved::Unbound;
+        return ResolveResult::Unbound;
     }
-    let n = last_default(records, count);
-    value_or(records, Resolved::Unbound, n)
+    let found = last_default(records, count);
+    value_or(records, ResolveResult::Unbound, found)
 }
 
 // The arms of `NamespaceResolver::resolve_prefix`, src/name.rs, in a table of the right form.
@@ -157,7 +156,7 @@ fn among<'t, 'n>(
     prefix: &'n [u8],
     named: bool,
     wanted: bool,
-) -> Resolved
+) -> ResolveResult
     requires { Inside records.now count (length text.now) }
     ensures { result ≡ among_of text.now (record_at records.now) count prefix.now named wanted }
 {
@@ -175,7 +174,7 @@ pub fn name_among<'t, 'n>(
     count: usize,
     name: &'n [u8],
     wanted: bool,
-) -> Resolved
+) -> ResolveResult
     requires { Inside records.now count (length text.now) }
     ensures { result ≡ among_of text.now (record_at records.now) count (prefix_of name.now) (has_colon name.now) wanted }
 {
@@ -195,17 +194,11 @@ pub fn resolve_prefix_in<'t, 'n>(
     prefix: &'n [u8],
     named: bool,
     wanted: bool,
-) -> Resolved
-    ensures { result ≡ lent WrongLength (resolve_prefix_of prefix.now named wanted) text.now records.now head }
+) -> Result<ResolveResult, FormError>
+    ensures { result ≡ lent (Err WrongLength) (resolve_prefix_of prefix.now named wanted) text.now records.now head }
 {
-    let form = scope_table::form_in(text, records, head);
-    match form {
-        Form::Good => {}
-        Form::Bad => return Resolved::BadResolver,
-        Form::WrongLength => return Resolved::WrongLength,
-    }
-    let count = head.count;
-    among(text, records, count, prefix, named, wanted)
+    scope_table::form_in(text, records, head)?;
+    Ok(among(text, records, head.count, prefix, named, wanted))
 }
 
 // `NamespaceResolver::resolve`, src/name.rs, on lent memory.
@@ -215,21 +208,15 @@ pub fn resolve_in<'t, 'n>(
     head: Head,
     name: &'n [u8],
     wanted: bool,
-) -> Resolved
-    ensures { result ≡ lent WrongLength (resolve_of name.now wanted) text.now records.now head }
+) -> Result<ResolveResult, FormError>
+    ensures { result ≡ lent (Err WrongLength) (resolve_of name.now wanted) text.now records.now head }
 {
-    let form = scope_table::form_in(text, records, head);
-    match form {
-        Form::Good => {}
-        Form::Bad => return Resolved::BadResolver,
-        Form::WrongLength => return Resolved::WrongLength,
-    }
-    let count = head.count;
-    name_among(text, records, count, name, wanted)
+    scope_table::form_in(text, records, head)?;
+    Ok(name_among(text, records, head.count, name, wanted))
 }
 
 // `NamespaceResolver::resolve`, src/name.rs. What is handed back of the name is `local_part`.
-pub fn resolve(r: NamespaceResolver, name: &[u8], wanted: bool) -> Resolved
+pub fn resolve(r: NamespaceResolver, name: &[u8], wanted: bool) -> Result<ResolveResult, FormError>
     ensures { resolved_numbers result ≡ resolved_numbers (resolve_of name.now wanted r) }
 {
     let head = r.head;
@@ -237,7 +224,7 @@ pub fn resolve(r: NamespaceResolver, name: &[u8], wanted: bool) -> Resolved
 }
 
 // `NamespaceResolver::resolve_element`, src/name.rs.
-pub fn resolve_element(r: NamespaceResolver, name: &[u8]) -> Resolved
+pub fn resolve_element(r: NamespaceResolver, name: &[u8]) -> Result<ResolveResult, FormError>
     ensures { resolved_numbers result ≡ resolved_numbers (resolve_of name.now true r) }
 {
     let head = r.head;
@@ -245,7 +232,7 @@ pub fn resolve_element(r: NamespaceResolver, name: &[u8]) -> Resolved
 }
 
 // `NamespaceResolver::resolve_attribute`, src/name.rs.
-pub fn resolve_attribute(r: NamespaceResolver, name: &[u8]) -> Resolved
+pub fn resolve_attribute(r: NamespaceResolver, name: &[u8]) -> Result<ResolveResult, FormError>
     ensures { resolved_numbers result ≡ resolved_numbers (resolve_of name.now false r) }
 {
     let head = r.head;
@@ -253,7 +240,12 @@ pub fn resolve_attribute(r: NamespaceResolver, name: &[u8]) -> Resolved
 }
 
 // `NamespaceResolver::resolve_prefix`, src/name.rs.
-pub fn resolve_prefix(r: NamespaceResolver, prefix: &[u8], named: bool, wanted: bool) -> Resolved
+pub fn resolve_prefix(
+    r: NamespaceResolver,
+    prefix: &[u8],
+    named: bool,
+    wanted: bool,
+) -> Result<ResolveResult, FormError>
     ensures { resolved_numbers result ≡ resolved_numbers (resolve_prefix_of prefix.now named wanted r) }
 {
     let head = r.head;
@@ -261,20 +253,30 @@ pub fn resolve_prefix(r: NamespaceResolver, prefix: &[u8], named: bool, wanted: 
 }
 
 // The URI that a lookup found: a part of the resolver's text.
-pub fn uri_part<'t, 'n>(text: &'t [u8], name: &'n [u8], found: Resolved) -> &'t [u8]
+#[tactic(auto, unfolding(crate::specs::Lookup::uri_part))]
+pub fn uri_part<'t, 'n>(
+    text: &'t [u8],
+    name: &'n [u8],
+    found: Result<ResolveResult, FormError>,
+) -> &'t [u8]
     ensures { result.now ≡ uri_part text.now found }
 {
-    let Resolved::Bound(from, to) = found else {
+    let Ok(ResolveResult::Bound(from, to)) = found else {
         return &text[..0];
     };
     scan::inside(text, from, to)
 }
 
 // The prefix that a lookup does not know: a part of the name.
-pub fn prefix_part<'t, 'n>(text: &'t [u8], name: &'n [u8], found: Resolved) -> &'n [u8]
+#[tactic(auto, unfolding(crate::specs::Lookup::prefix_part))]
+pub fn prefix_part<'t, 'n>(
+    text: &'t [u8],
+    name: &'n [u8],
+    found: Result<ResolveResult, FormError>,
+) -> &'n [u8]
     ensures { result.now ≡ prefix_part name.now found }
 {
-    let Resolved::Unknown(from, to) = found else {
+    let Ok(ResolveResult::Unknown(from, to)) = found else {
         return &name[..0];
     };
     scan::inside(name, from, to)
@@ -288,27 +290,29 @@ pub fn local_part<'t, 'n>(text: &'t [u8], name: &'n [u8]) -> &'n [u8]
 }
 
 // `TryFrom<ResolveResult>` for `Option<Namespace>`, src/name.rs. Nothing is changed by it, whatever it answers.
-pub fn namespace_of(found: Resolved) -> Namespace
+#[tactic(auto, unfolding(crate::specs::Lookup::namespace_of, crate::specs::Lookup::namespace_numbers))]
+pub fn namespace_of(
+    found: Result<ResolveResult, FormError>,
+) -> Result<Option<Namespace>, LookupError>
     ensures { namespace_numbers result ≡ namespace_numbers (namespace_of found) }
 {
-    match found {
-        Resolved::Bound(from, to) => Namespace::Bound(from, to),
-        Resolved::Unbound => Namespace::Unbound,
-        Resolved::Unknown(from, to) => Namespace::UnknownPrefix(from, to),
-        Resolved::BadResolver => Namespace::BadResolver,
-        Resolved::WrongLength => Namespace::WrongLength,
+    match found? {
+        ResolveResult::Bound(start, end) => Ok(Some(Namespace { start, end })),
+        ResolveResult::Unbound => Ok(None),
+        ResolveResult::Unknown(start, end) => Err(LookupError::UnknownPrefix(start, end)),
     }
 }
 
 // The numbers of what a name resolves to, for a function that can hand out no enum.
-pub fn resolved_numbers(found: Resolved) -> Told
+#[tactic(auto, unfolding(crate::specs::Lookup::resolved_numbers))]
+pub fn resolved_numbers(found: Result<ResolveResult, FormError>) -> Told
     ensures { result ≡ told_of (resolved_numbers found) }
 {
     match found {
-        Resolved::Bound(from, to) => scope_table::told_of(1, from, to),
-        Resolved::Unbound => scope_table::told_of(0, 0, 0),
-        Resolved::Unknown(from, to) => scope_table::told_of(2, from, to),
-        Resolved::BadResolver => scope_table::told_of(20, 0, 0),
-        Resolved::WrongLength => scope_table::told_of(99, 0, 0),
+        Ok(ResolveResult::Unbound) => scope_table::told_of(0, 0, 0),
+        Ok(ResolveResult::Bound(from, to)) => scope_table::told_of(1, from, to),
+        Ok(ResolveResult::Unknown(from, to)) => scope_table::told_of(2, from, to),
+        Err(FormError::BadResolver) => scope_table::told_of(20, 0, 0),
+        Err(FormError::WrongLength) => scope_table::told_of(99, 0, 0),
     }
 }

@@ -5,8 +5,9 @@ use mathlib.Core.Bool.{Bool, true, false, ◌||◌}
 use mathlib.Core.List.{List, [], ◌∷◌}
 use native.Mathlib.Numerals.{add-one}
 use lib.ListN.{length}
+use Rattle.std.specs.Prelude.{Result, Ok}
 use Rattle.scan.specs.First.{pick}
-use Rattle.tag_step.specs.declared.Answer.{Answer}
+use Rattle.tag_step.specs.Answer.{Answer}
 use Rattle.tag_step.specs.declared.IterState.{IterState}
 use Rattle.tag_step.specs.Next.{state_good, next_of}
 use Rattle.tag_step.specs.Run.{is_end, cons_unless, run_of, answers_of}
@@ -14,8 +15,7 @@ use Rattle.tag_step.proofs.Good.{Sized}
 use Rattle.tag_step.proofs.Run.{run_whole}
 use Rattle.scope_table.specs.Table.{valid_of}
 use Rattle.scope_table.specs.declared.NamespaceResolver.{NamespaceResolver}
-use Rattle.scope_nil.specs.declared.Nil.{Nil}
-use Rattle.scope_nil.specs.declared.Nil.TheVariants.{Yes, No}
+use Rattle.scope_nil.specs.declared.NilError.{NilError}
 use Rattle.scope_nil.specs.declared.HasNil.{HasNil}
 use Rattle.scope_nil.specs.Nil.{said, says_nil, search_of, searched, has_nil_of}
 use Rattle.scope_nil.proofs.Turns.{has_search}
@@ -25,11 +25,11 @@ unfoldable pub any_nil : NamespaceResolver → (tag : List ℕ) → List Answer 
 any_nil x s [] = false
 any_nil x s (a ∷ more) = says_nil x s a || any_nil x s more
 
-abbrev pub yes_or_no : Bool → Nil
-yes_or_no b = pick b Yes No
+abbrev pub yes_or_no : Bool → Result Bool NilError
+yes_or_no b = pick b (Ok true) (Ok false)
 
 -- one answer, whether it is the end (t) and what is looked for (p), before what a search finds later
-among_by : (x : NamespaceResolver) (s : List ℕ) (a : Answer) (t p : Bool) (after : IterState) (later : HasNil) (more : List Answer) → says_nil x s a ≡ p → later.answer ≡ yes_or_no (any_nil x s more) → (pick t (said No after) (pick p (said Yes after) later)).answer ≡ yes_or_no (any_nil x s (cons_unless t a more))
+among_by : (x : NamespaceResolver) (s : List ℕ) (a : Answer) (t p : Bool) (after : IterState) (later : HasNil) (more : List Answer) → says_nil x s a ≡ p → later.answer ≡ yes_or_no (any_nil x s more) → (pick t (said (Ok false) after) (pick p (said (Ok true) after) later)).answer ≡ yes_or_no (any_nil x s (cons_unless t a more))
 unfolding any_nil cons_unless
 among_by x s a true p after later more e h = refl
 among_by x s a false true after later more e h = rw e

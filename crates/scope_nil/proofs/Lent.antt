@@ -3,16 +3,16 @@
 use Prim.Native.Nat.{ℕ, zero, suc, ◌-◌, ◌≤◌, ◌<◌}
 use mathlib.Core.Path.{◌≡◌, refl, sym, ap, subst, ◌∙◌}
 use mathlib.Core.Bool.{Bool, true, false, ◌&&◌}
-use mathlib.Core.List.{List, append-nil}
-use native.Mathlib.Nat.{zero-add}
+use mathlib.Core.List.{List, ◌++◌}
 use native.Mathlib.Omega.{arith}
 use lib.Dec.{eqb}
-use lib.ListN.{length, take, drop, replicate, length-append, drop_of_length-le}
-use lib.Seq.{take_all, take-length, length-take-le}
+use lib.ListN.{length, take, drop, replicate, length-append}
+use lib.Seq.{take_all, take-length}
 use borrow.Author.Tests.{le-leb, lt-leb}
+use Rattle.std.specs.Prelude.{Ok, Err}
 use Rattle.scan.specs.First.{pick}
 use Rattle.scan.specs.Bytes.{inside, same_bytes, bytes}
-use Rattle.scan.specs.Lists.{over, pad_to}
+use Rattle.scan.specs.Lists.{pad_to}
 use Rattle.scan.proofs.Laws.{picks}
 use Rattle.scan.proofs.Bytes.{both}
 use Rattle.scan.proofs.Lists.{part_same, pad_length, pad_take}
@@ -22,7 +22,7 @@ use Rattle.tag_keys.proofs.Laws.{table_in, facts_hold}
 use Rattle.tag_step.specs.declared.Place.TheVariants.{Done}
 use Rattle.tag_step.specs.declared.IterState.{IterState}
 use Rattle.tag_step.specs.declared.Standing.{Standing}
-use Rattle.tag_step.specs.declared.Answer.{Answer}
+use Rattle.tag_step.specs.Answer.{Answer}
 use Rattle.tag_step.specs.Next.{place_good, state_good, next_of, lent_state, stands_at}
 use Rattle.tag_step.specs.Lent.{whole_of, stepped_of}
 use Rattle.tag_step.specs.Run.{is_end}
@@ -39,23 +39,24 @@ use Rattle.scope_table.proofs.Calls.{asks_wrong, asks_bad, asks_good}
 use Rattle.scope_table.specs.declared.Head.{Head}
 use Rattle.scope_table.specs.declared.NamespaceBinding.{NamespaceBinding}
 use Rattle.scope_table.specs.declared.NamespaceResolver.{NamespaceResolver}
-use Rattle.scope_table.specs.declared.Form.TheVariants as Is
+use Rattle.scope_table.specs.declared.FormError.{FormError}
+use Rattle.scope_table.specs.declared.FormError.TheVariants as Is
 use Rattle.scope_table.specs.Lists.{last_below}
 use Rattle.scope_lookup.specs.Inside.{Inside}
 use Rattle.scope_lookup.specs.Lookup.{has_prefix, is_default, value_or, explicit_of, default_of, among_of, uri_part}
-use Rattle.scope_lookup.specs.declared.Resolved.{Resolved}
-use Rattle.scope_lookup.specs.declared.Resolved.TheVariants.{Bound, Unbound, Unknown}
+use Rattle.scope_lookup.specs.declared.ResolveResult.{ResolveResult}
+use Rattle.scope_lookup.specs.declared.ResolveResult.TheVariants.{Bound, Unbound, Unknown}
 use Rattle.scope_table.proofs.Last.{last_within}
 use Rattle.scope_lookup.proofs.Padded.{pad_among, ready_inside}
-use Rattle.scope_nil.specs.Nil.{said, nil_left_by, unmoved_by, is_yes, instance_uri, is_nil, says_nil, search_of, searched, has_nil_of, held_nil, whole_search, nil_on_keys, keys_fit, has_nil_in, Searchable, Resting}
+use Rattle.scope_nil.specs.Nil.{refused_nil, said, nil_left_by, unmoved_by, is_yes, instance_uri, is_nil, says_nil, search_of, searched, has_nil_of, held_nil, whole_search, nil_on_keys, keys_fit, has_nil_in, Searchable, Resting}
 use Rattle.scope_nil.specs.declared.HasNil.{HasNil}
 use Rattle.scope_nil.specs.declared.Left.{Left}
-use Rattle.scope_nil.specs.declared.Nil.TheVariants as Nil
+use Rattle.scope_nil.specs.declared.NilError.TheVariants as Refused
 
 -- The URI that is found ends within the lent text, so it is the same there and in what that stands for.
 module _ (m : ℕ) (text : List ℕ) (rows : ℕ → NamespaceBinding) (count : ℕ) (h : (k : ℕ) → k < count → value_end (rows k) ≤ length text) where
-  Same : Resolved → Type 0
-  Same f = uri_part (pad_to m text) f ≡ uri_part text f
+  Same : ResolveResult → Type 0
+  Same f = uri_part (pad_to m text) (Ok f) ≡ uri_part text (Ok f)
 
   same_bound : (b : NamespaceBinding) → value_end b ≤ length text → value_end b ≤ length (pad_to m text) → Same (Bound (value_start b) (value_end b))
   unfolding Same uri_part inside
@@ -64,7 +65,7 @@ module _ (m : ℕ) (text : List ℕ) (rows : ℕ → NamespaceBinding) (count : 
       rw (le-leb (value_start b) (value_end b) o, le-leb (value_end b) (length text) l, le-leb (value_end b) (length (pad_to m text)) k)
       (part_same (length text) (pad_to m text) text (value_start b) (value_end b) (pad_take m text ∙ sym (take-length text)) o l)
 
-  same_value : (other : Resolved) → Same other → (n : ℕ) → n ≤ count → length text ≤ length (pad_to m text) → Same (value_or rows other n)
+  same_value : (other : ResolveResult) → Same other → (n : ℕ) → n ≤ count → length text ≤ length (pad_to m text) → Same (value_or rows other n)
   unfolding value_or
   same_value other o zero l k = o
   same_value other o (suc i) l k =
@@ -84,10 +85,10 @@ pad_longer m xs = simp length-append (omega arith)
 
 -- So lent scopes find the same as what they stand for.
 module _ (text records : List ℕ) (head : Head) (i : Inside records head.count (length text)) where
-  same_uri : (p : List ℕ) (explicit wanted : Bool) → uri_part (pad_to TEXT text) (among_of (pad_to TEXT text) (record_at (pad_to NUMBERS records)) head.count p explicit wanted) ≡ uri_part text (among_of text (record_at records) head.count p explicit wanted)
+  same_uri : (p : List ℕ) (explicit wanted : Bool) → uri_part (pad_to TEXT text) (Ok (among_of (pad_to TEXT text) (record_at (pad_to NUMBERS records)) head.count p explicit wanted)) ≡ uri_part text (Ok (among_of text (record_at records) head.count p explicit wanted))
   unfolding Same
   same_uri p explicit wanted =
-      ap (uri_part (pad_to TEXT text))
+      ap (λ (r : ResolveResult). uri_part (pad_to TEXT text) (Ok r))
       (ap (λ (rows : ℕ → NamespaceBinding). among_of (pad_to TEXT text) rows head.count p explicit wanted) (pad_records NUMBERS records)
       ∙ pad_among TEXT text (record_at records) head.count i.each p explicit wanted)
       ∙ same_among TEXT text (record_at records) head.count i.each (pad_longer TEXT text) p explicit wanted
@@ -103,8 +104,8 @@ module _ (text records : List ℕ) (head : Head) (i : Inside records head.count 
   same_search zero s st = refl
   same_search (suc n) s st =
       let y = next_of s st in
-      ap (λ (t : Bool). pick (is_end y.answer) (said Nil.No y.state) (pick t (said Nil.Yes y.state) (search_of n (stands_for text records head) s y.state))) (same_says s y.answer)
-      ∙ ap (λ (later : HasNil). pick (is_end y.answer) (said Nil.No y.state) (pick (says_nil (resolver_of text records head) s y.answer) (said Nil.Yes y.state) later)) (same_search n s y.state)
+      ap (λ (t : Bool). pick (is_end y.answer) (said (Ok false) y.state) (pick t (said (Ok true) y.state) (search_of n (stands_for text records head) s y.state))) (same_says s y.answer)
+      ∙ ap (λ (later : HasNil). pick (is_end y.answer) (said (Ok false) y.state) (pick (says_nil (resolver_of text records head) s y.answer) (said (Ok true) y.state) later)) (same_search n s y.state)
 
   pub same_whole : (s : List ℕ) (st : IterState) → whole_search (stands_for text records head) s st ≡ whole_search (resolver_of text records head) s st
   unfolding whole_search searched
@@ -146,10 +147,10 @@ full_search x s st z g =
 -- `has_nil` on tables of full size is that of the iterator.
 pub full_nil : (s : List ℕ) (st : IterState) (x : NamespaceResolver) → Sized st → nil_on_keys s st x ≡ has_nil_of s st x
 unfolding nil_on_keys has_nil_of
-full_nil s st x z = ap (λ (h : HasNil). pick (valid_of x) h (said Nil.BadResolver st)) (by (state_good s st) refl) where
-  by : (t : Bool) → state_good s st ≡ t → pick t (whole_search x s st) (said Nil.BadState (stepped_of s st)) ≡ pick t (searched x s st) (said Nil.BadState (next_of s st).state)
+full_nil s st x z = ap (λ (h : HasNil). pick (valid_of x) h (said (Err Refused.BadResolver) st)) (by (state_good s st) refl) where
+  by : (t : Bool) → state_good s st ≡ t → pick t (whole_search x s st) (said (Err Refused.BadState) (stepped_of s st)) ≡ pick t (searched x s st) (said (Err Refused.BadState) (next_of s st).state)
   by true g = sym (full_search x s st z g)
-  by false g = ap (said Nil.BadState) (full_leaves s st z)
+  by false g = ap (said (Err Refused.BadState)) (full_leaves s st z)
 
 -- Lent tables.
 module _ (st : IterState) where
@@ -171,34 +172,38 @@ module _ (st : IterState) where
 
 -- The whole call, in the order of its tests.
 module _ (s : List ℕ) (st : IterState) (text records : List ℕ) (head : Head) where
-  pub in_long : keys_fit st ≡ false → said Nil.WrongLength st ≡ has_nil_in s st text records head
+  pub in_long : keys_fit st ≡ false → said (Err Refused.WrongLength) st ≡ has_nil_in s st text records head
   unfolding has_nil_in
   in_long f = rw f
 
   module _ (f : keys_fit st ≡ true) where
-    fitted : lent (said Nil.WrongLength st) (nil_on_keys s st) text records head ≡ has_nil_in s st text records head
+    fitted : lent (said (Err Refused.WrongLength) st) (nil_on_keys s st) text records head ≡ has_nil_in s st text records head
     unfolding has_nil_in
     fitted = rw f
 
-    pub in_wrong : form_of text records head ≡ Is.WrongLength → said Nil.WrongLength st ≡ has_nil_in s st text records head
-    in_wrong e = sym (asks_wrong text records head (said Nil.WrongLength st) (nil_on_keys s st) e) ∙ fitted
+    in_wrong : form_of text records head ≡ Err Is.WrongLength → said (Err Refused.WrongLength) st ≡ has_nil_in s st text records head
+    in_wrong e = sym (asks_wrong text records head (said (Err Refused.WrongLength) st) (nil_on_keys s st) e) ∙ fitted
 
     inner : NamespaceResolver → HasNil
-    inner x = pick (state_good s st) (whole_search x s st) (said Nil.BadState (stepped_of s st))
+    inner x = pick (state_good s st) (whole_search x s st) (said (Err Refused.BadState) (stepped_of s st))
 
-    pub in_bad : form_of text records head ≡ Is.Bad → said Nil.BadResolver st ≡ has_nil_in s st text records head
+    in_bad : form_of text records head ≡ Err Is.BadResolver → said (Err Refused.BadResolver) st ≡ has_nil_in s st text records head
     unfolding nil_on_keys inner
-    in_bad e = sym (asks_bad text records head (said Nil.WrongLength st) inner (λ x. said Nil.BadResolver st) e) ∙ fitted
+    in_bad e = sym (asks_bad text records head (said (Err Refused.WrongLength) st) inner (λ x. said (Err Refused.BadResolver) st) e) ∙ fitted
 
-    in_good : form_of text records head ≡ Is.Good → inner (stands_for text records head) ≡ has_nil_in s st text records head
+    pub in_refused : (why : FormError) → form_of text records head ≡ Err why → said (Err (refused_nil why)) st ≡ has_nil_in s st text records head
+    in_refused Is.BadResolver e = in_bad e
+    in_refused Is.WrongLength e = in_wrong e
+
+    in_good : form_of text records head ≡ Ok tt → inner (stands_for text records head) ≡ has_nil_in s st text records head
     unfolding nil_on_keys inner
-    in_good e = sym (asks_good text records head (said Nil.WrongLength st) inner (λ x. said Nil.BadResolver st) e) ∙ fitted
+    in_good e = sym (asks_good text records head (said (Err Refused.WrongLength) st) inner (λ x. said (Err Refused.BadResolver) st) e) ∙ fitted
 
-    pub in_7 : form_of text records head ≡ Is.Good → state_good s st ≡ false → length st.starts ≤ capacity → length st.ends ≤ capacity → length st.hashes ≤ capacity → (starts ends hashes : List ℕ) → starts ≡ replicate (length st.starts) 0 → ends ≡ replicate (length st.ends) 0 → hashes ≡ replicate (length st.hashes) 0 → said Nil.BadState (lent_state Done st.html st.check_duplicates starts ends hashes 0) ≡ has_nil_in s st text records head
+    pub in_7 : form_of text records head ≡ Ok tt → state_good s st ≡ false → length st.starts ≤ capacity → length st.ends ≤ capacity → length st.hashes ≤ capacity → (starts ends hashes : List ℕ) → starts ≡ replicate (length st.starts) 0 → ends ≡ replicate (length st.ends) 0 → hashes ≡ replicate (length st.hashes) 0 → said (Err Refused.BadState) (lent_state Done st.html st.check_duplicates starts ends hashes 0) ≡ has_nil_in s st text records head
     unfolding inner
     in_7 e g a b d starts ends hashes p q t = rw (p, q, t, ← bad_leaves s st a b d g) (sym (rw g) ∙ in_good e)
 
-    pub in_search : form_of text records head ≡ Is.Good → state_good s st ≡ true → whole_search (resolver_of text records head) s st ≡ has_nil_in s st text records head
+    pub in_search : form_of text records head ≡ Ok tt → state_good s st ≡ true → whole_search (resolver_of text records head) s st ≡ has_nil_in s st text records head
     unfolding inner
     in_search e g =
         let i = ready_inside text records head (ready text records head e) in
@@ -209,7 +214,7 @@ pub full_in : (s : List ℕ) (st : IterState) (x : NamespaceResolver) → length
 unfolding has_nil_in
 full_in s st x p q h t r =
     rw (keys_fit_lem st (omega arith) (omega arith) (omega arith))
-    (full_asks x.text x.records x.head t r (said Nil.WrongLength st) (nil_on_keys s st) ∙ full_nil s st x (record { starts = p; ends = q; hashes = h }))
+    (full_asks x.text x.records x.head t r (said (Err Refused.WrongLength) st) (nil_on_keys s st) ∙ full_nil s st x (record { starts = p; ends = q; hashes = h }))
 
 -- A copy of lent tables in tables of full size, and back.
 
@@ -224,18 +229,9 @@ zeros_drop (suc m) (suc k) =
     let e : m - k ≡ suc m - suc k = omega arith in
     zeros_drop m k ∙ ap (λ (n : ℕ). replicate {A = ℕ} n 0) e
 
-copied_in : (t u : List ℕ) → u ≡ over (replicate capacity 0) 0 (take (length t) t) → u ≡ pad_to capacity t
-unfolding over pad_to
-copied_in t u e = e ∙ rw (take-length t, zero-add (length t), zeros_drop capacity (length t))
-
-over_all : (t p : List ℕ) → length p ≡ length t → over t 0 p ≡ p
-unfolding over
-over_all t p e =
-    let h : length t ≤ length p = omega arith in
-    rw (zero-add (length p), drop_of_length-le t h) (append-nil p)
-
-copied_back : (t u w : List ℕ) → length t ≤ length u → w ≡ over t 0 (take (length t) u) → w ≡ take (length t) u
-copied_back t u w l e = e ∙ over_all t (take (length t) u) (length-take-le (length t) u l)
+copied_in : (t u : List ℕ) → u ≡ t ++ drop (length t) (replicate capacity 0) → u ≡ pad_to capacity t
+unfolding pad_to
+copied_in t u e = e ∙ rw (zeros_drop capacity (length t))
 
 module _ (x : NamespaceResolver) (s : List ℕ) (at : Standing) (S E H : List ℕ) (y : Resting s (stands_at at S E H)) where
   whole_searchable : Searchable s (whole_of (stands_at at S E H))
@@ -250,7 +246,7 @@ module _ (x : NamespaceResolver) (s : List ℕ) (at : Standing) (S E H : List �
       }
 
   -- the copy is the iterator that the lent tables are, and it can be searched
-  module _ (P Q R : List ℕ) (p : P ≡ over (replicate capacity 0) 0 (take (length S) S)) (q : Q ≡ over (replicate capacity 0) 0 (take (length E) E)) (t : R ≡ over (replicate capacity 0) 0 (take (length H) H)) where
+  module _ (P Q R : List ℕ) (p : P ≡ S ++ drop (length S) (replicate capacity 0)) (q : Q ≡ E ++ drop (length E) (replicate capacity 0)) (t : R ≡ H ++ drop (length H) (replicate capacity 0)) where
     whole_copy : stands_at at P Q R ≡ whole_of (stands_at at S E H)
     unfolding whole_of
     whole_copy = rw (copied_in S P p, copied_in E Q q, copied_in H R t)
@@ -269,14 +265,10 @@ module _ (x : NamespaceResolver) (s : List ℕ) (at : Standing) (S E H : List �
           subst (λ (h : HasNil). Sized h.state) (sym found)
           (search_keeps (suc (suc (length s))) x s (whole_of (stands_at at S E H)) (record { starts = whole_searchable.starts; ends = whole_searchable.ends; hashes = whole_searchable.hashes }) whole_searchable.good).0
 
-      pub short_more : holds S E H r.count ≡ false → nil_left_by at (unmoved_by Nil.LendMore at) S E H ≡ whole_search x s (stands_at at S E H)
+      pub short_more : holds S E H r.count ≡ false → nil_left_by at (unmoved_by (Err Refused.LendMore) at) S E H ≡ whole_search x s (stands_at at S E H)
       unfolding whole_search held_nil
       short_more h = rw (← found, h)
 
-      pub short_held : holds S E H r.count ≡ true → (S' E' H' : List ℕ) → S' ≡ over S 0 (take (length S) starts) → E' ≡ over E 0 (take (length E) ends) → H' ≡ over H 0 (take (length H) hashes) → nil_left_by at r S' E' H' ≡ whole_search x s (stands_at at S E H)
+      pub short_held : holds S E H r.count ≡ true → (S' E' H' : List ℕ) → S' ≡ take (length S) starts → E' ≡ take (length E) ends → H' ≡ take (length H) hashes → nil_left_by at r S' E' H' ≡ whole_search x s (stands_at at S E H)
       unfolding whole_search held_nil
-      short_held h S' E' H' u v w =
-          let a : S' ≡ take (length S) starts = copied_back S starts S' (omega (arith, left_sized.starts, y.starts)) u in
-          let b : E' ≡ take (length E) ends = copied_back E ends E' (omega (arith, left_sized.ends, y.ends)) v in
-          let d : H' ≡ take (length H) hashes = copied_back H hashes H' (omega (arith, left_sized.hashes, y.hashes)) w in
-          rw (a, b, d, ← found, h)
+      short_held h S' E' H' u v w = rw (u, v, w, ← found, h)

@@ -3,70 +3,41 @@
 -- the state after it.
 use Prim.Native.Nat.{ℕ, zero, suc, ◌+◌, ◌≤◌, ◌<◌}
 use mathlib.Core.Path.{◌≡◌, refl, sym, ap, subst, ◌∙◌}
-use mathlib.Core.Bool.{Bool, true, false}
+use mathlib.Core.Bool.{Bool, true, false, not, false≢true}
 use mathlib.Core.List.{List}
 use native.Mathlib.Omega.{arith}
 use lib.ListN.{length, replicate}
+use Rattle.std.proofs.Common.{Option, Some, None}
+use Rattle.std.specs.Prelude.{is_some, Ok, Err}
 use Rattle.scan.specs.First.{pick}
-use Rattle.scan.specs.Bytes.{same_bytes, bytes}
-use Rattle.name.specs.Split.{has_colon, prefix_of, local_of}
 use Rattle.tag_step.specs.declared.Place.{Place}
 use Rattle.tag_step.specs.declared.Place.TheVariants.{Done}
-use Rattle.tag_step.specs.declared.Start.{Start}
-use Rattle.tag_step.specs.declared.Start.TheVariants.{From, Ended}
-use Rattle.tag_step.specs.declared.Answer.{Answer}
-use Rattle.tag_step.specs.declared.Answer.TheVariants.{End, DoubleQ, SingleQ, Unquoted, Empty, ExpectedEq, ExpectedValue, UnquotedValue, ExpectedQuote, Duplicated, KeyTableFull, BadState}
+use Rattle.tag_step.specs.Answer.{Answer}
 use Rattle.tag_step.specs.declared.IterState.{IterState}
 use Rattle.tag_step.specs.declared.Standing.{Standing}
 use Rattle.tag_step.specs.declared.Step.{Step}
-use Rattle.tag_parts.specs.declared.Truth.{Truth}
-use Rattle.tag_parts.specs.declared.Truth.TheVariants.{Yes, No, Neither}
 use Rattle.tag_step.specs.Read.{recover_of}
 use Rattle.tag_step.specs.Next.{keys_of, state_good, no_keys, bad_reading, leaves, next_of, lent_state}
 use Rattle.tag_step.specs.Run.{is_end}
-use Rattle.tag_parts.specs.Parts.{key_part, value_part, truth_of}
+use Rattle.tag_parts.specs.Parts.{key_part, value_part}
 use Rattle.tag_step.proofs.Whole.{next_bad, next_steps}
 use Rattle.tag_step.proofs.Good.{Sized, next_stays_good, next_sized}
 use Rattle.tag_step.proofs.Run.{todo, todo_falls}
-use Rattle.scope_table.specs.Records.{record_at}
 use Rattle.scope_table.specs.Table.{valid_of}
 use Rattle.scope_table.specs.declared.NamespaceResolver.{NamespaceResolver}
-use Rattle.scope_lookup.specs.Lookup.{among_of, uri_part}
 use Rattle.scope_nil.specs.declared.HasNil.{HasNil}
 use Rattle.scope_nil.specs.declared.Left.{Left}
-use Rattle.scope_nil.specs.declared.Nil.TheVariants as Nil
-use Rattle.scope_nil.specs.Nil.{said, nil_left_by, is_yes, instance_uri, is_nil, says_nil, search_of, searched, has_nil_of}
-
--- One attribute.
-
-pub no_yes : (t : Truth) → (t ≡ Yes → ⊥) → is_yes t ≡ false
-unfolding is_yes
-no_yes Yes k = absurd (k refl)
-no_yes No k = refl
-no_yes Neither k = refl
-
-module _ (x : NamespaceResolver) (key value : List ℕ) where
-  pub nil_other : same_bytes (local_of key) (bytes "nil") ≡ false → false ≡ is_nil x key value
-  unfolding is_nil
-  nil_other n = rw n
-
-  module _ (n : same_bytes (local_of key) (bytes "nil") ≡ true) where
-    pub nil_no : is_yes (truth_of value) ≡ false → false ≡ is_nil x key value
-    unfolding is_nil
-    nil_no y = rw (n, y)
-
-    pub nil_bound : is_yes (truth_of value) ≡ true → same_bytes (uri_part x.text (among_of x.text (record_at x.records) x.head.count (prefix_of key) (has_colon key) false)) instance_uri ≡ is_nil x key value
-    unfolding is_nil
-    nil_bound y = rw (n, y)
+use Rattle.scope_nil.specs.declared.NilError.TheVariants as Refused
+use Rattle.scope_nil.specs.Nil.{said, nil_left_by, is_nil, says_nil, search_of, searched, has_nil_of}
 
 -- What is left to read.
 
 abbrev pub unread : List ℕ → IterState → ℕ
 unread s st = todo (length s) (recover_of s st.place)
 
-todo_most : (l : ℕ) (x : Start) → todo l x ≤ suc l
-todo_most l (From o) = omega arith
-todo_most l Ended = omega arith
+todo_most : (l : ℕ) (x : Option ℕ) → todo l x ≤ suc l
+todo_most l (Some o) = omega arith
+todo_most l None = omega arith
 
 -- an answer that is not the end leaves less
 pub next_falls : (s : List ℕ) (st : IterState) → state_good s st ≡ true → is_end (next_of s st).answer ≡ false → unread s (next_of s st).state < unread s st
@@ -101,7 +72,7 @@ search_whole j x s st z g =
 
 -- One turn: `a` is the next answer, and `after` the state that it leaves.
 module _ (x : NamespaceResolver) (s : List ℕ) (st : IterState) (z : Sized st) (g : state_good s st ≡ true) (a : Answer) (after : IterState) (step : record { answer = a; state = after } ≡ next_of s st) where
-  search_step : searched x s st ≡ pick (is_end a) (said Nil.No after) (pick (says_nil x s a) (said Nil.Yes after) (searched x s after))
+  search_step : searched x s st ≡ pick (is_end a) (said (Ok false) after) (pick (says_nil x s a) (said (Ok true) after) (searched x s after))
   unfolding searched search_of
   search_step =
       let t = todo_most (length s) (recover_of s st.place) in
@@ -109,12 +80,12 @@ module _ (x : NamespaceResolver) (s : List ℕ) (st : IterState) (z : Sized st) 
       (λ e.
       let f = next_falls s st g e in
       enough (suc (length s)) (suc (suc (length s))) x s (next_of s st).state (next_sized s st z) (next_stays_good s st z) (omega (arith, f, t)) (omega (arith, f, t)))
-      ∙ ap (λ (y : Step). pick (is_end y.answer) (said Nil.No y.state) (pick (says_nil x s y.answer) (said Nil.Yes y.state) (searched x s y.state))) (sym step)
+      ∙ ap (λ (y : Step). pick (is_end y.answer) (said (Ok false) y.state) (pick (says_nil x s y.answer) (said (Ok true) y.state) (searched x s y.state))) (sym step)
 
-  pub search_ends : is_end a ≡ true → said Nil.No after ≡ searched x s st
+  pub search_ends : is_end a ≡ true → said (Ok false) after ≡ searched x s st
   search_ends e = sym (search_step ∙ rw e)
 
-  pub search_yes : is_end a ≡ false → says_nil x s a ≡ true → said Nil.Yes after ≡ searched x s st
+  pub search_yes : is_end a ≡ false → says_nil x s a ≡ true → said (Ok true) after ≡ searched x s st
   search_yes e y = sym (search_step ∙ rw (e, y))
 
   pub search_on : is_end a ≡ false → says_nil x s a ≡ false → searched x s st ≡ searched x s after
@@ -122,20 +93,12 @@ module _ (x : NamespaceResolver) (s : List ℕ) (st : IterState) (z : Sized st) 
 
 -- An answer as the code sees it.
 
-pub no_end : (a : Answer) → (a ≡ End → ⊥) → is_end a ≡ false
+pub end_told : (a : Answer) (b t : Bool) → is_some a ≡ not b → b ≡ t → is_end a ≡ t
 unfolding is_end
-no_end End t = absurd (t refl)
-no_end (DoubleQ k v) t = refl
-no_end (SingleQ k v) t = refl
-no_end (Unquoted k v) t = refl
-no_end (Empty k) t = refl
-no_end (ExpectedEq p) t = refl
-no_end (ExpectedValue l) t = refl
-no_end (UnquotedValue p) t = refl
-no_end (ExpectedQuote l q) t = refl
-no_end (Duplicated this earlier) t = refl
-no_end (KeyTableFull this) t = refl
-no_end BadState t = refl
+end_told None true t told e = e
+end_told None false t told e = absurd (false≢true told)
+end_told (Some x) true t told e = absurd (false≢true (sym told))
+end_told (Some x) false t told e = e
 
 pub says_by : (x : NamespaceResolver) (s : List ℕ) (a : Answer) (key value : List ℕ) (b t : Bool) → key ≡ key_part s a → value ≡ value_part s a → b ≡ is_nil x key value → b ≡ t → says_nil x s a ≡ t
 unfolding says_nil
@@ -154,12 +117,12 @@ module _ (s : List ℕ) (st : IterState) (z : Sized st) (g : state_good s st ≡
 
 -- `has_nil`: 20, then 7, then the search.
 module _ (s : List ℕ) (st : IterState) (x : NamespaceResolver) where
-  pub has_20 : valid_of x ≡ false → said Nil.BadResolver st ≡ has_nil_of s st x
+  pub has_20 : valid_of x ≡ false → said (Err Refused.BadResolver) st ≡ has_nil_of s st x
   unfolding has_nil_of
   has_20 v = rw v
 
   module _ (v : valid_of x ≡ true) where
-    pub has_7 : (after : IterState) → after ≡ (next_of s st).state → state_good s st ≡ false → said Nil.BadState after ≡ has_nil_of s st x
+    pub has_7 : (after : IterState) → after ≡ (next_of s st).state → state_good s st ≡ false → said (Err Refused.BadState) after ≡ has_nil_of s st x
     unfolding has_nil_of
     has_7 after e g = rw (v, g, e)
 

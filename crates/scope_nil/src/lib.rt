@@ -7,25 +7,20 @@
 // Both are tested once a call: every name is then looked up in a table that was found good.
 #![tactic(auto)]
 
-ghost use Rattle.std.specs.Prelude.{◌≡◌, ◌≤◌, length, take};
-ghost use Rattle.scan.specs.Lists.{over};
+ghost use Rattle.std.specs.Prelude.{◌≡◌, ◌≤◌, length, ◌++◌, drop};
 ghost use Rattle.scope_table.specs.Table.{resolver_of};
 ghost use Rattle.scope_lookup.specs.Inside.{Inside};
 ghost use Rattle.tag_step.specs.Next.{stands_at};
-ghost use Rattle.scope_nil.specs.Nil.{nil_number, numbered_nil, is_nil, searched, whole_search, has_nil_of, has_nil_in, nil_left_by, unmoved_by, Searchable, Resting};
+ghost use Rattle.scope_nil.specs.Nil.{nil_number, refused_nil, numbered_nil, is_nil, searched, whole_search, has_nil_of, has_nil_in, nil_left_by, unmoved_by, Searchable, Resting};
 
-use scope_table::{Form, Head, NamespaceResolver};
+use scope_table::{FormError, Head, NamespaceResolver};
 use tag_keys::{CAPACITY, SIEVE_WORDS};
-use tag_parts::Truth;
-use tag_step::{Answer, IterState, Place, Standing, Stepped};
+use tag_step::{Answer, IterState, Place, Standing};
 
-// Whether a tag has a `nil` that is true: the crate's bool, and the refusals of what it is asked with.
+// Why a tag is not searched for a `nil` that is true. Else the answer is the crate's bool: true for `f:nil="true"` where `f` is
+// bound to the XMLSchema-instance URI, and false for every other tag, also one whose attributes are refused.
 #[derive(Clone, Copy)]
-pub enum Nil {
-    // `f:nil="true"` where `f` is bound to the XMLSchema-instance URI
-    Yes,
-    // every other tag, also one whose attributes are refused
-    No,
+pub enum NilError {
     // 7: an iterator that no reading of this tag leaves
     BadState,
     // 20: a resolver that no calls leave
@@ -36,39 +31,49 @@ pub enum Nil {
     WrongLength,
 }
 
-impl Nil {
-    // As a number, for an exported function, which hands out no enum.
-    pub fn number(self) -> usize
-        ensures { result ≡ nil_number self }
-    {
-        match self {
-            Nil::No => 0,
-            Nil::Yes => 1,
-            Nil::BadState => 7,
-            Nil::BadResolver => 20,
-            Nil::LendMore => 98,
-            Nil::WrongLength => 99,
+impl From<FormError> for NilError {
+    ghost from_gives = { λ e error. error ≡ refused_nil e };
+
+    fn from(e: FormError) -> NilError {
+        match e {
+            FormError::BadResolver => NilError::BadResolver,
+            FormError::WrongLength => NilError::WrongLength,
         }
+    }
+}
+
+// What a search found, as a number, for an exported function, which hands out no enum.
+pub fn nil_number(found: Result<bool, NilError>) -> usize
+    ensures { result ≡ nil_number found }
+{
+    match found {
+        Ok(false) => 0,
+        Ok(true) => 1,
+        Err(NilError::BadState) => 7,
+        Err(NilError::BadResolver) => 20,
+        Err(NilError::LendMore) => 98,
+        Err(NilError::WrongLength) => 99,
     }
 }
 
 // The answer, and the iterator that it leaves: after the attribute that was a yes, or after the end.
 #[derive(Clone, Copy)]
 pub struct HasNil {
-    pub answer: Nil,
+    pub answer: Result<bool, NilError>,
     pub state: IterState,
 }
 
 // The answer, and what it leaves beside lent tables. Mode and checks stay.
 #[derive(Clone, Copy)]
 pub struct Left {
-    pub answer: Nil,
+    pub answer: Result<bool, NilError>,
     pub place: Place,
     pub count: usize,
 }
 
 // Whether one attribute is what `has_nil` looks for: the closure in `Attributes::has_nil`. The name is resolved last, as
 // that costs most and most names are not called `nil`.
+#[tactic(auto, unfolding(crate::specs::Nil::is_nil, crate::specs::Nil::is_yes, crate::specs::Nil::instance_uri, scan::specs::Bytes::bytes, scan::specs::Bytes::bytes_from))]
 fn is_nil<'t, 'n>(
     text: &'t [u8],
     records: &'t [usize],
@@ -79,16 +84,11 @@ fn is_nil<'t, 'n>(
     requires { Inside records.now head.count (length text.now) }
     ensures { result ≡ is_nil (resolver_of text.now records.now head) key.now value.now }
 {
-    if !scan::same(name::local_name(key), b"nil") {
+    if !scan::same(name::local_name(key), b"nil") || tag_parts::as_bool(value) != Some(true) {
         return false;
     }
-    let truth = tag_parts::as_bool(value);
-    let Truth::Yes = truth else {
-        return false;
-    };
-    let count = head.count;
-    let found = scope_lookup::name_among(text, records, count, key, false);
-    let uri = scope_lookup::uri_part(text, key, found);
+    let found = scope_lookup::name_among(text, records, head.count, key, false);
+    let uri = scope_lookup::uri_part(text, key, Ok(found));
     scan::same(uri, b"http://www.w3.org/2001/XMLSchema-instance")
 }
 
@@ -113,18 +113,19 @@ fn search<'k, 't>(
     let mut recorded = at.count;
     let mut sieve = [0u64; SIEVE_WORDS];
     tag_keys::sieve_kept(&mut sieve, hashes, recorded);
+    // No `for` over a range: the loop counts no index, it steps the iterator until its end.
     loop {
         let here = Standing {
             place: stand,
-            html: html,
-            checks: checks,
+            html,
+            checks,
             count: recorded,
         };
         let step = tag_step::step_in(tag, starts, ends, hashes, &mut sieve, here);
         // Tables of full size have a place for every key: the other case never comes.
-        let Stepped::Made(made) = step else {
+        let Some(made) = step else {
             return Left {
-                answer: Nil::LendMore,
+                answer: Err(NilError::LendMore),
                 place: stand,
                 count: recorded,
             };
@@ -132,9 +133,9 @@ fn search<'k, 't>(
         let answer = made.answer;
         stand = made.place;
         recorded = made.count;
-        if let Answer::End = answer {
+        if answer.is_none() {
             return Left {
-                answer: Nil::No,
+                answer: Ok(false),
                 place: stand,
                 count: recorded,
             };
@@ -143,7 +144,7 @@ fn search<'k, 't>(
         let value = tag_parts::value_part(tag, answer);
         if is_nil(text, records, head, key, value) {
             return Left {
-                answer: Nil::Yes,
+                answer: Ok(true),
                 place: stand,
                 count: recorded,
             };
@@ -151,28 +152,12 @@ fn search<'k, 't>(
     }
 }
 
-// Writes the first n places of a table over those of another.
-fn copy(to: &mut [usize], from: &[usize], n: usize)
-    requires { (n ≤ length from.now) × (n ≤ length to.old) }
-    ensures { to.new ≡ over to.old 0 (take n from.now) }
+// Writes a slice over the first places of another, whose other places stay.
+fn write_over<T: Copy>(to: &mut [T], from: &[T])
+    requires { length from.now ≤ length to.old }
+    ensures { to.new ≡ from.now ++ drop (length from.now) to.old }
 {
-    let mut i = 0;
-    while i < n {
-        to[i] = from[i];
-        i += 1;
-    }
-}
-
-// The same of a table of hashes.
-fn copy_hashes(to: &mut [u32], from: &[u32], n: usize)
-    requires { (n ≤ length from.now) × (n ≤ length to.old) }
-    ensures { to.new ≡ over to.old 0 (take n from.now) }
-{
-    let mut i = 0;
-    while i < n {
-        to[i] = from[i];
-        i += 1;
-    }
+    to[..from.len()].copy_from_slice(from);
 }
 
 // The same search on tables that may be shorter. It reads into tables of its own, which have room for every key, so that
@@ -191,15 +176,12 @@ fn search_short<'k, 't>(
     ensures { nil_left_by at result starts.new ends.new hashes.new
         ≡ whole_search (resolver_of text.now records.now head) tag.now (stands_at at starts.old ends.old hashes.old) }
 {
-    let n = starts.len();
-    let m = ends.len();
-    let l = hashes.len();
     let mut all_starts = [0usize; CAPACITY];
     let mut all_ends = [0usize; CAPACITY];
     let mut all_hashes = [0u32; CAPACITY];
-    copy(&mut all_starts, starts, n);
-    copy(&mut all_ends, ends, m);
-    copy_hashes(&mut all_hashes, hashes, l);
+    write_over(&mut all_starts, starts);
+    write_over(&mut all_ends, ends);
+    write_over(&mut all_hashes, hashes);
     let found = search(
         tag,
         &mut all_starts,
@@ -212,22 +194,22 @@ fn search_short<'k, 't>(
     );
     let count = found.count;
     if !tag_keys::holds(starts, ends, hashes, count) {
-        return unmoved(Nil::LendMore, at);
+        return unmoved(Err(NilError::LendMore), at);
     }
-    copy(starts, &all_starts, n);
-    copy(ends, &all_ends, m);
-    copy_hashes(hashes, &all_hashes, l);
+    starts.copy_from_slice(&all_starts[..starts.len()]);
+    ends.copy_from_slice(&all_ends[..ends.len()]);
+    hashes.copy_from_slice(&all_hashes[..hashes.len()]);
     found
 }
 
 // An answer that leaves the iterator where it stands.
-fn unmoved(answer: Nil, at: Standing) -> Left
+fn unmoved(answer: Result<bool, NilError>, at: Standing) -> Left
     ensures { result ≡ unmoved_by answer at }
 {
     let place = at.place;
     Left {
-        answer: answer,
-        place: place,
+        answer,
+        place,
         count: at.count,
     }
 }
@@ -246,37 +228,24 @@ pub fn has_nil_in<'k, 't>(
     ensures { nil_left_by at result starts.new ends.new hashes.new
         ≡ has_nil_in tag.now (stands_at at starts.old ends.old hashes.old) text.now records.now head }
 {
-    if CAPACITY < starts.len() {
-        return unmoved(Nil::WrongLength, at);
+    if CAPACITY < starts.len() || CAPACITY < ends.len() || CAPACITY < hashes.len() {
+        return unmoved(Err(NilError::WrongLength), at);
     }
-    if CAPACITY < ends.len() {
-        return unmoved(Nil::WrongLength, at);
-    }
-    if CAPACITY < hashes.len() {
-        return unmoved(Nil::WrongLength, at);
-    }
-    let form = scope_table::form_in(text, records, head);
-    match form {
-        Form::Good => {}
-        Form::Bad => return unmoved(Nil::BadResolver, at),
-        Form::WrongLength => return unmoved(Nil::WrongLength, at),
+    if let Err(wrong) = scope_table::form_in(text, records, head) {
+        return unmoved(Err(NilError::from(wrong)), at);
     }
     let place = at.place;
     let count = at.count;
     if !tag_step::good_in(tag, starts, ends, hashes, count, place) {
         tag_step::clear_keys(starts, ends, hashes);
         return Left {
-            answer: Nil::BadState,
+            answer: Err(NilError::BadState),
             place: Place::Done,
             count: 0,
         };
     }
-    if starts.len() == CAPACITY {
-        if ends.len() == CAPACITY {
-            if hashes.len() == CAPACITY {
-                return search(tag, starts, ends, hashes, at, text, records, head);
-            }
-        }
+    if starts.len() == CAPACITY && ends.len() == CAPACITY && hashes.len() == CAPACITY {
+        return search(tag, starts, ends, hashes, at, text, records, head);
     }
     search_short(tag, starts, ends, hashes, at, text, records, head)
 }
@@ -293,10 +262,10 @@ pub fn has_nil(state: IterState, tag: &[u8], resolver: NamespaceResolver) -> Has
     let count = state.count;
     let place = state.place;
     let at = Standing {
-        place: place,
-        html: html,
-        checks: checks,
-        count: count,
+        place,
+        html,
+        checks,
+        count,
     };
     let head = resolver.head;
     let out = has_nil_in(
@@ -312,14 +281,14 @@ pub fn has_nil(state: IterState, tag: &[u8], resolver: NamespaceResolver) -> Has
     let answer = out.answer;
     let left = out.place;
     HasNil {
-        answer: answer,
+        answer,
         state: IterState {
             place: left,
-            html: html,
+            html,
             check_duplicates: checks,
-            starts: starts,
-            ends: ends,
-            hashes: hashes,
+            starts,
+            ends,
+            hashes,
             count: out.count,
         },
     }

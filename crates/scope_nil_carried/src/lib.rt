@@ -9,12 +9,15 @@ ghost use Rattle.std.specs.Prelude.{◌≡◌};
 ghost use Rattle.scope_nil.specs.Nil.{nil_number};
 ghost use Rattle.scope_nil_carried.specs.NilHeld.{said_of, after_nil};
 
-use scope_nil::Nil;
+use scope_nil::NilError;
 use scope_table::NamespaceResolver;
 use tag_carried::Attributes;
 
 // Whether an attribute from here on says that the element is nil, and the iterator moves on past it or to the end.
-pub fn has_nil<'s, 'a, 'r>(it: &'s mut Attributes<'a>, resolver: &'r NamespaceResolver) -> Nil
+pub fn has_nil<'s, 'a, 'r>(
+    it: &'s mut Attributes<'a>,
+    resolver: &'r NamespaceResolver,
+) -> Result<bool, NilError>
     ensures { (nil_number result ≡ nil_number (said_of it.old resolver.now)) × (it.new ≡ after_nil it.old resolver.now) }
 {
     let found = scope_nil::has_nil(it.state, it.tag, *resolver);

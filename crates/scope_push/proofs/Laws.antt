@@ -6,34 +6,35 @@ use mathlib.Core.Bool.{true, false}
 use mathlib.Core.List.{List, [], ◌∷◌}
 use native.Mathlib.Omega.{arith}
 use lib.Dec.{leb}
+use Rattle.std.specs.Prelude.{Err}
 use Rattle.scan.specs.First.{pick}
 use Rattle.scan.proofs.Laws.{picks}
 use Rattle.scope_table.specs.Lists.{cut}
 use Rattle.scope_table.specs.Records.{row_at}
 use Rattle.scope_table.specs.Table.{TEXT, RECORDS, DEEPEST, head_of, valid_of}
-use Rattle.scope_table.specs.Answer.{is_done, changed}
+use Rattle.scope_table.specs.Answer.{is_done, changed, refused_form, NamespaceResult}
 use Rattle.scope_table.specs.Lent.{lent, given, lent_of, form_of}
 use Rattle.scope_table.specs.declared.Head.{Head}
 use Rattle.scope_table.specs.declared.NamespaceResolver.{NamespaceResolver}
 use Rattle.scope_table.specs.declared.Changed.{Changed}
-use Rattle.scope_table.specs.declared.NamespaceResult.{NamespaceResult}
-use Rattle.scope_table.specs.declared.NamespaceResult.TheVariants.{Done, InvalidXmlPrefixBind, InvalidXmlnsPrefixBind, InvalidPrefixForXml, InvalidPrefixForXmlns, TooManyBindings, TooDeeplyNested, BindingTableFull, TextFull, BadResolver, LendMore, WrongLength}
-use Rattle.scope_table.specs.declared.Form.TheVariants as Is
+use Rattle.scope_table.specs.declared.NamespaceError.{NamespaceError}
+use Rattle.scope_table.specs.declared.NamespaceError.TheVariants.{InvalidXmlPrefixBind, InvalidXmlnsPrefixBind, InvalidPrefixForXml, InvalidPrefixForXmlns, TooManyBindings, TooDeeplyNested, BindingTableFull, TextFull, BadResolver, LendMore, WrongLength}
+use Rattle.scope_table.specs.declared.FormError.{FormError}
 use Rattle.scope_table.proofs.Lists.{cut_zeros}
 use Rattle.scope_change.specs.Change.{whole}
 use Rattle.scope_change.specs.declared.Room.{Room}
 use Rattle.scope_declare.proofs.Laws.{is_more, FullSize, declare_sized}
 use Rattle.scope_table.proofs.Good.{Ready}
-use Rattle.scope_table.proofs.Calls.{unchanged, changes_bad}
+use Rattle.scope_table.proofs.Calls.{unchanged, changes_refused}
 use Rattle.scope_push.specs.Push.{Declaration, tag_declarations, declare_one, then_of, declare_all, raised_of, push_of}
 use Rattle.scope_push.specs.Run.{one_by_one}
 use Rattle.scope_push.proofs.Run.{Along, back_of, run_back}
 
--- 20
-pub push_bad : (s : List ℕ) (from : ℕ) (t r : List ℕ) (h : Head) → form_of t r h ≡ Is.Bad → given BadResolver t r h ≡ lent_of (push_of s from) t r h
+-- 20 and 99
+pub push_refused : (s : List ℕ) (from : ℕ) (t r : List ℕ) (h : Head) (e : FormError) → form_of t r h ≡ Err e → given (Err (refused_form e)) t r h ≡ lent_of (push_of s from) t r h
 unfolding push_of
-push_bad s from t r h e =
-    changes_bad t r h (λ x. pick (leb DEEPEST x.head.level) (changed (TooDeeplyNested DEEPEST) x) (declare_all whole (tag_declarations s from) (raised_of x))) e
+push_refused s from t r h =
+    changes_refused t r h (λ x. pick (leb DEEPEST x.head.level) (changed (Err (TooDeeplyNested DEEPEST)) x) (declare_all whole (tag_declarations s from) (raised_of x)))
 
 module _ (s : List ℕ) (from : ℕ) (t r : List ℕ) (h : Head) (good : Ready t r h) where
   abbrev ds : List Declaration
@@ -44,9 +45,9 @@ module _ (s : List ℕ) (from : ℕ) (t r : List ℕ) (h : Head) (good : Ready t
   raised = head_of h.used h.count (h.level + 1) h.limit
 
   -- 17
-  pub too_deep : leb DEEPEST h.level ≡ true → given (TooDeeplyNested DEEPEST) t r h ≡ lent_of (push_of s from) t r h
+  pub too_deep : leb DEEPEST h.level ≡ true → given (Err (TooDeeplyNested DEEPEST)) t r h ≡ lent_of (push_of s from) t r h
   unfolding push_of
-  too_deep e = unchanged t r h good.fit (push_of s from) (TooDeeplyNested DEEPEST) (rw (good.valid, e))
+  too_deep e = unchanged t r h good.fit (push_of s from) (Err (TooDeeplyNested DEEPEST)) (rw (good.valid, e))
 
   begins : Along t r h t r raised
   begins =
@@ -73,13 +74,12 @@ module _ (s : List ℕ) (from : ℕ) (t r : List ℕ) (h : Head) (good : Ready t
     push_went m = rw m at back_is
 
     -- it is not held: what was added is taken back, and the level is as it was
-    pub push_back : a ≡ LendMore → given LendMore (cut t' h.used) (cut r' (row_at h.count)) h ≡ lent_of (push_of s from) t r h
+    pub push_back : a ≡ Err LendMore → given (Err LendMore) (cut t' h.used) (cut r' (row_at h.count)) h ≡ lent_of (push_of s from) t r h
     unfolding back_of
     push_back m = rw m at back_is
 
--- An answer at another variant than LendMore, which is the eleventh.
-pub not_more : (a : NamespaceResult) → (a ≡ LendMore → ⊥) → is_more a ≡ false
-not_more Done k = refl
+-- a refusal at another variant than LendMore
+pub not_more : (e : NamespaceError) → (e ≡ LendMore → ⊥) → is_more (Err e) ≡ false
 not_more (InvalidXmlPrefixBind a e) k = refl
 not_more (InvalidXmlnsPrefixBind a e) k = refl
 not_more (InvalidPrefixForXml a e) k = refl

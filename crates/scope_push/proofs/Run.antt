@@ -7,19 +7,19 @@ use mathlib.Core.List.{List, [], ◌∷◌, ◌++◌, append_assoc}
 use native.Mathlib.Omega.{arith}
 use lib.ListN.{length, take, drop, replicate, length-append}
 use lib.Seq.{take-append-le, drop-append-le}
+use Rattle.std.specs.Prelude.{Ok, Err}
 use Rattle.scan.specs.First.{pick}
 use Rattle.scan.specs.Lists.{over, pad_to}
 use Rattle.scan.proofs.Lists.{over_length, take_of_over, pad_take}
 use Rattle.scope_table.specs.Lists.{cut}
 use Rattle.scope_table.specs.Records.{row_at, row_of, binding_of}
 use Rattle.scope_table.specs.Table.{TEXT, RECORDS, NUMBERS, head_of}
-use Rattle.scope_table.specs.Answer.{is_done, changed}
+use Rattle.scope_table.specs.Answer.{is_done, changed, NamespaceResult}
 use Rattle.scope_table.specs.Lent.{stands_for, holds_of, fits_of, Given, given, held_of, lent_of}
 use Rattle.scope_table.specs.declared.Head.{Head}
 use Rattle.scope_table.specs.declared.NamespaceResolver.{NamespaceResolver}
 use Rattle.scope_table.specs.declared.Changed.{Changed}
-use Rattle.scope_table.specs.declared.NamespaceResult.{NamespaceResult}
-use Rattle.scope_table.specs.declared.NamespaceResult.TheVariants.{Done, LendMore}
+use Rattle.scope_table.specs.declared.NamespaceError.TheVariants.{LendMore}
 use Rattle.scope_change.specs.Change.{bound_of}
 use Rattle.scope_change.specs.declared.Room.{Room}
 use Rattle.scope_declare.proofs.Laws.{is_more, declare_ways}
@@ -80,7 +80,7 @@ module _ (room : Room) (few : room.records ≤ RECORDS) (small : room.bytes ≤ 
   then_grows ds next x h k a true e = rw e (next x h k)
   then_grows ds next x h k a false e = rw e (same_grows x h k)
 
-  bound_grows : (ds : List Declaration) → Later ds → (x : NamespaceResolver) (p v : List ℕ) → x.head.count < room.records → x.head.used + (length p + length v) ≤ room.bytes → Grows x (then_of (changed Done (bound_of p v x)) (declare_all room ds)).resolver
+  bound_grows : (ds : List Declaration) → Later ds → (x : NamespaceResolver) (p v : List ℕ) → x.head.count < room.records → x.head.used + (length p + length v) ≤ room.bytes → Grows x (then_of (changed (Ok tt) (bound_of p v x)) (declare_all room ds)).resolver
   unfolding then_of bound_of
   bound_grows ds next x p v h k =
       let g = next (bound_of p v x) (omega arith) (omega arith) in
@@ -110,7 +110,7 @@ pub record Along (t₀ r₀ : List ℕ) (h₀ : Head) (t r : List ℕ) (h : Head
 -- what was added is taken back where it did not go through
 unfoldable pub back_of : Head → Given → Given
 back_of head g =
-    pick (is_more g.answer) (given LendMore (cut g.text head.used) (cut g.records (row_at head.count)) head) g
+    pick (is_more g.answer) (given (Err LendMore) (cut g.text head.used) (cut g.records (row_at head.count)) head) g
 
 -- One binding more on lent memory that holds it.
 module _ (p v t r : List ℕ) (h : Head) (small : h.used + (length p + length v) ≤ TEXT) (few : h.count < RECORDS) (holds : fits_of (length t) (length r) (h.used + (length p + length v)) (h.count + 1) ≡ true) where
@@ -141,10 +141,10 @@ module _ (p v t r : List ℕ) (h : Head) (small : h.used + (length p + length v)
   unfolding bound_of
   bound_is = rw (pad_write TEXT t h.used (p ++ v) text_in, pad_write NUMBERS r (row_at h.count) row row_in)
 
-  lent_bound : (f : NamespaceResolver → Changed) → fits_of (length t) (length r) h.used h.count ≡ true → f (stands_for t r h) ≡ changed Done (bound_of p v (stands_for t r h)) → given Done next_text next_records next_head ≡ lent_of f t r h
+  lent_bound : (f : NamespaceResolver → Changed) → fits_of (length t) (length r) h.used h.count ≡ true → f (stands_for t r h) ≡ changed (Ok tt) (bound_of p v (stands_for t r h)) → given (Ok tt) next_text next_records next_head ≡ lent_of f t r h
   unfolding bound_of
   lent_bound f fit e =
-      changes t r h fit f Done (bound_of p v (stands_for t r h)) next_text next_records e holds
+      changes t r h fit f (Ok tt) (bound_of p v (stands_for t r h)) next_text next_records e holds
       (pad_over TEXT t h.used (p ++ v) text_in)
       (pad_over NUMBERS r (row_at h.count) row row_in)
 
@@ -175,7 +175,7 @@ abbrev KeptBy : (t r : List ℕ) → Given → Type 0
 KeptBy t r g = Kept t r g.text g.records g.head
 
 module _ (room : Room) (few : room.records ≤ RECORDS) (small : room.bytes ≤ TEXT) (t r : List ℕ) (h : Head) (k : Kept t r t r h) (f : NamespaceResolver → Changed) where
-  kept_bound : (p v : List ℕ) → h.count < room.records → h.used + (length p + length v) ≤ room.bytes → f (stands_for t r h) ≡ changed Done (bound_of p v (stands_for t r h)) → (u : Bool) → fits_of (length t) (length r) (h.used + (length p + length v)) (h.count + 1) ≡ u → KeptBy t r (lent_of f t r h)
+  kept_bound : (p v : List ℕ) → h.count < room.records → h.used + (length p + length v) ≤ room.bytes → f (stands_for t r h) ≡ changed (Ok tt) (bound_of p v (stands_for t r h)) → (u : Bool) → fits_of (length t) (length r) (h.used + (length p + length v)) (h.count + 1) ≡ u → KeptBy t r (lent_of f t r h)
   unfolding bound_of
   kept_bound p v l m e true w =
       let s : h.used + (length p + length v) ≤ TEXT = omega arith in
@@ -183,7 +183,7 @@ module _ (room : Room) (few : room.records ≤ RECORDS) (small : room.bytes ≤ 
       let lt = over_length t h.used (p ++ v) (text_in p v t r h s q w) in
       let lr = over_length r (row_at h.count) (row p v t r h s q w) (row_in p v t r h s q w) in
       rw (← lent_bound p v t r h s q w f k.fits e) (record { bytes = lt; numbers = lr; fits = rw (lt, lr) w })
-  kept_bound p v l m e false w = rw (← lends_more t r h k.fits f Done (bound_of p v (stands_for t r h)) e w) k
+  kept_bound p v l m e false w = rw (← lends_more t r h k.fits f (Ok tt) (bound_of p v (stands_for t r h)) e w) k
 
 declare_kept : (room : Room) → room.records ≤ RECORDS → room.bytes ≤ TEXT → (d : Declaration) (t r : List ℕ) (h : Head) → Kept t r t r h → KeptBy t r (lent_of (declare_one room d) t r h)
 declare_kept room few small d t r h k =
@@ -205,7 +205,7 @@ module _ (t₀ r₀ : List ℕ) (h₀ : Head) where
   unfolding held_of
   held_same t r h a b = rw (← a.bytes, ← a.numbers, a.fits, pad_take TEXT t, pad_take NUMBERS r)
 
-  held_not : (t r : List ℕ) (h : Head) → Along t₀ r₀ h₀ t r h → (c : Changed) → fits_of (length t) (length r) c.resolver.head.used c.resolver.head.count ≡ false → held_of t₀ r₀ h₀ c ≡ given LendMore t₀ r₀ h₀
+  held_not : (t r : List ℕ) (h : Head) → Along t₀ r₀ h₀ t r h → (c : Changed) → fits_of (length t) (length r) c.resolver.head.used c.resolver.head.count ≡ false → held_of t₀ r₀ h₀ c ≡ given (Err LendMore) t₀ r₀ h₀
   unfolding held_of
   held_not t r h a c e = rw (← a.bytes, ← a.numbers, e)
 
@@ -213,7 +213,7 @@ module _ (t₀ r₀ : List ℕ) (h₀ : Head) where
   unfolding back_of
   back_keeps b t r h e = rw e
 
-  back_takes : (t r : List ℕ) (h : Head) → Along t₀ r₀ h₀ t r h → back_of h₀ (given LendMore t r h) ≡ given LendMore t₀ r₀ h₀
+  back_takes : (t r : List ℕ) (h : Head) → Along t₀ r₀ h₀ t r h → back_of h₀ (given (Err LendMore) t r h) ≡ given (Err LendMore) t₀ r₀ h₀
   unfolding back_of
   back_takes t r h a = rw (a.text_back, a.rows_back)
 
@@ -234,7 +234,7 @@ module _ (t₀ r₀ : List ℕ) (h₀ : Head) where
       step_keeps b m e false d = rw (← unchanged t r h a.fits f b e, d) (back_keeps b t r h m ∙ sym (held_same t r h a b))
 
       -- it adds a binding, which is held, or not
-      step_binds : (p v : List ℕ) → h.count < room.records → h.used + (length p + length v) ≤ room.bytes → f (stands_for t r h) ≡ changed Done (bound_of p v (stands_for t r h)) → (u : Bool) → fits_of (length t) (length r) (h.used + (length p + length v)) (h.count + 1) ≡ u → Step (changed Done (bound_of p v (stands_for t r h)))
+      step_binds : (p v : List ℕ) → h.count < room.records → h.used + (length p + length v) ≤ room.bytes → f (stands_for t r h) ≡ changed (Ok tt) (bound_of p v (stands_for t r h)) → (u : Bool) → fits_of (length t) (length r) (h.used + (length p + length v)) (h.count + 1) ≡ u → Step (changed (Ok tt) (bound_of p v (stands_for t r h)))
       unfolding then_given then_of bound_of
       step_binds p v k l e true w =
           let s : h.used + (length p + length v) ≤ TEXT = omega arith in
@@ -244,11 +244,11 @@ module _ (t₀ r₀ : List ℕ) (h₀ : Head) where
           let y = bound_of p v (stands_for t r h) in
           let g = grows room few small ds y (omega arith) (omega arith) in
           let n = fits_not_more (length t) (length r) _ _ _ _ w g.text g.small g.rows g.few in
-          rw (← lends_more t r h a.fits f Done y e w, held_not t r h a (declare_all room ds y) n) (back_takes t r h a)
+          rw (← lends_more t r h a.fits f (Ok tt) y e w, held_not t r h a (declare_all room ds y) n) (back_takes t r h a)
 
     pub run_back : (ds : List Declaration) → Goal ds
     unfolding one_by_one declare_all
-    run_back [] t r h a = back_keeps Done t r h refl ∙ sym (held_same t r h a Done)
+    run_back [] t r h a = back_keeps (Ok tt) t r h refl ∙ sym (held_same t r h a (Ok tt))
     run_back (d ∷ ds) t r h a =
         let f = declare_one room d in
         let x = stands_for t r h in

@@ -9,6 +9,7 @@ use lib.Dec.{eqb, leb}
 use lib.ListN.{length, take, drop, get_or, length-drop}
 use lib.Seq.{drop-drop}
 use borrow.Author.Tests.{leb-true, leb-false}
+use Rattle.std.proofs.Common.{Result, Ok, Err, Option, Some, None}
 use Rattle.scan.specs.First.{first_from}
 use Rattle.scan.specs.Bytes.{part, is_byte, not_space, Marks}
 use Rattle.scan.proofs.Bytes.{inside_part}
@@ -17,16 +18,14 @@ use Rattle.scan.proofs.Lists.{part_is, part_length}
 use Rattle.name.specs.Bind.{reserved_bind, refused_text}
 use Rattle.name.specs.Declares.{opening, is_named, declared_prefix}
 use Rattle.name.specs.declared.PrefixDeclaration.{PrefixDeclaration}
-use Rattle.name.specs.declared.PrefixDeclaration.TheVariants.{Nothing, Default, Named}
-use Rattle.name.specs.declared.NamedCheck.{NamedCheck}
-use Rattle.name.specs.declared.NamedCheck.TheVariants as Check
-use Rattle.tag_keys.specs.declared.Checked.{Checked}
-use Rattle.tag_keys.specs.declared.Checked.TheVariants.{Fresh, Same, Full}
+use Rattle.name.specs.declared.PrefixDeclaration.TheVariants.{Default, Named}
+use Rattle.name.specs.declared.ReservedBinding.{ReservedBinding}
+use Rattle.name.specs.declared.ReservedBinding.TheVariants as Check
+use Rattle.tag_keys.specs.declared.KeyRefusal.{KeyRefusal}
+use Rattle.tag_keys.specs.declared.KeyRefusal.TheVariants.{Same, Full}
 use Rattle.tag_step.specs.declared.Span.{Span}
-use Rattle.tag_step.specs.declared.Start.{Start}
-use Rattle.tag_step.specs.declared.Start.TheVariants.{From, Ended}
-use Rattle.tag_step.specs.declared.Answer.{Answer}
-use Rattle.tag_step.specs.declared.Answer.TheVariants.{End, DoubleQ, SingleQ, Unquoted, Empty, ExpectedEq, ExpectedValue, UnquotedValue, ExpectedQuote, Duplicated, KeyTableFull, BadState}
+use Rattle.tag_step.specs.Answer.{Answer}
+use Rattle.tag_step.specs.declared.Attr.TheVariants.{DoubleQ, SingleQ, Unquoted, Empty}
 use Rattle.tag_step.specs.declared.Found.{Found}
 use Rattle.tag_step.specs.Read.{span, recover_of, quoted, closed_of, value_at}
 use Rattle.tag_step.specs.Next.{Keys, Reading, bare_by, bare_to, valued_by, valued_to, read_at, no_keys}
@@ -55,18 +54,12 @@ pub record SpanIn (s : List ℕ) (x : Span) : Type 0 where
   pub inside : x.end ≤ length s
 
 abbrev In : List ℕ → Answer → Type 0
-In s End = Unit {0}
-In s (DoubleQ k v) = SpanIn s k × SpanIn s v
-In s (SingleQ k v) = SpanIn s k × SpanIn s v
-In s (Unquoted k v) = Unit {0}
-In s (Empty k) = Unit {0}
-In s (ExpectedEq p) = Unit {0}
-In s (ExpectedValue l) = Unit {0}
-In s (UnquotedValue p) = Unit {0}
-In s (ExpectedQuote l q) = Unit {0}
-In s (Duplicated this earlier) = Unit {0}
-In s (KeyTableFull this) = Unit {0}
-In s BadState = Unit {0}
+In s None = Unit {0}
+In s (Some (Ok (DoubleQ k v))) = SpanIn s k × SpanIn s v
+In s (Some (Ok (SingleQ k v))) = SpanIn s k × SpanIn s v
+In s (Some (Ok (Unquoted k v))) = Unit {0}
+In s (Some (Ok (Empty k))) = Unit {0}
+In s (Some (Err e)) = Unit {0}
 
 closed_in : (s : List ℕ) (q : ℕ) (k v : Span) → SpanIn s k → SpanIn s v → In s (closed_of q k v).answer
 unfolding closed_of quoted
@@ -84,17 +77,17 @@ value_in_lem s html key eq k =
     (λ e h q m f. tt)
     (λ h q m. tt)
 
-valued_in_lem : (s : List ℕ) (html : Bool) (key : Span) (eq : ℕ) (c : Checked) → SpanIn s key → In s (valued_by s html key eq c).answer
+valued_in_lem : (s : List ℕ) (html : Bool) (key : Span) (eq : ℕ) (c : Result ℕ KeyRefusal) → SpanIn s key → In s (valued_by s html key eq c).answer
 unfolding valued_by
-valued_in_lem s html key eq (Fresh n) k = value_in_lem s html key eq k
-valued_in_lem s html key eq (Same earlier) k = tt
-valued_in_lem s html key eq Full k = tt
+valued_in_lem s html key eq (Ok n) k = value_in_lem s html key eq k
+valued_in_lem s html key eq (Err (Same earlier)) k = tt
+valued_in_lem s html key eq (Err Full) k = tt
 
-bare_in_lem : (s : List ℕ) (key : Span) (at : ℕ) (c : Checked) → In s (bare_by s key at c).answer
+bare_in_lem : (s : List ℕ) (key : Span) (at : ℕ) (c : Result ℕ KeyRefusal) → In s (bare_by s key at c).answer
 unfolding bare_by
-bare_in_lem s key at (Fresh n) = tt
-bare_in_lem s key at (Same earlier) = tt
-bare_in_lem s key at Full = tt
+bare_in_lem s key at (Ok n) = tt
+bare_in_lem s key at (Err (Same earlier)) = tt
+bare_in_lem s key at (Err Full) = tt
 
 read_in : (s : List ℕ) (html checks : Bool) (keys : Keys) (o : ℕ) → o ≤ length s → In s (read_at s html checks keys o).answer
 unfolding bare_to valued_to
@@ -114,11 +107,11 @@ unfolding cons_unless
 cons_in s true a more h k = tt
 cons_in s false a more h k = (h, k)
 
-run_in : (n : ℕ) (s : List ℕ) (html checks : Bool) (keys : Keys) (x : Start) → StartIn (length s) x → AllIn s (run_from n s html checks keys x)
+run_in : (n : ℕ) (s : List ℕ) (html checks : Bool) (keys : Keys) (x : Option ℕ) → StartIn (length s) x → AllIn s (run_from n s html checks keys x)
 unfolding run_from StartIn
 run_in zero s html checks keys x h = tt
-run_in (suc n) s html checks keys Ended h = tt
-run_in (suc n) s html checks keys (From o) h =
+run_in (suc n) s html checks keys None h = tt
+run_in (suc n) s html checks keys (Some o) h =
     let r = read_at s html checks keys o in
     cons_in s (is_end r.answer) r.answer _ (read_in s html checks keys o h) (run_in n s html checks r.keys (recover_of s r.place) (recover_in s r.place))
 
@@ -172,18 +165,12 @@ AllPlaced s (d ∷ more) = Placed s d × AllPlaced s more
 
 then_placed : (s : List ℕ) (a : Answer) (more : List Declaration) → In s a → AllPlaced s more → AllPlaced s (declaration_then s a more)
 unfolding declaration_then key_part value_part
-then_placed s (DoubleQ k v) more i p = (placed s _ _ k v i.0 i.1 (inside_part s k.start k.end i.0.ahead i.0.inside) (inside_part s v.start v.end i.1.ahead i.1.inside), p)
-then_placed s (SingleQ k v) more i p = (placed s _ _ k v i.0 i.1 (inside_part s k.start k.end i.0.ahead i.0.inside) (inside_part s v.start v.end i.1.ahead i.1.inside), p)
-then_placed s (Unquoted k v) more i p = tt
-then_placed s (Empty k) more i p = tt
-then_placed s End more i p = tt
-then_placed s (ExpectedEq q) more i p = tt
-then_placed s (ExpectedValue l) more i p = tt
-then_placed s (UnquotedValue q) more i p = tt
-then_placed s (ExpectedQuote l q) more i p = tt
-then_placed s (Duplicated this earlier) more i p = tt
-then_placed s (KeyTableFull this) more i p = tt
-then_placed s BadState more i p = tt
+then_placed s (Some (Ok (DoubleQ k v))) more i p = (placed s _ _ k v i.0 i.1 (inside_part s k.start k.end i.0.ahead i.0.inside) (inside_part s v.start v.end i.1.ahead i.1.inside), p)
+then_placed s (Some (Ok (SingleQ k v))) more i p = (placed s _ _ k v i.0 i.1 (inside_part s k.start k.end i.0.ahead i.0.inside) (inside_part s v.start v.end i.1.ahead i.1.inside), p)
+then_placed s (Some (Ok (Unquoted k v))) more i p = tt
+then_placed s (Some (Ok (Empty k))) more i p = tt
+then_placed s None more i p = tt
+then_placed s (Some (Err e)) more i p = tt
 
 all_placed : (s : List ℕ) (answers : List Answer) → AllIn s answers → AllPlaced s (declarations_of s answers)
 unfolding declarations_of
@@ -194,41 +181,41 @@ all_placed s (a ∷ more) i = then_placed s a (declarations_of s more) i.0 (all_
 
 module _ (ps vs p v : List ℕ) (at : Places) (room : Room) (x : NamespaceResolver) where
   -- what the check passes holds no text
-  named_free : (k : NamedCheck) (text : List ℕ) → refuses_named k ≡ false → HoldsText ps vs (settle_of room (named_of k p at) p v x).answer text
+  named_free : (k : Result Bool ReservedBinding) (text : List ℕ) → refuses_named k ≡ false → HoldsText ps vs (settle_of room (named_of k p at) p v x).answer text
   unfolding named_of settle_of
-  named_free Check.Fine text e = append_none ps vs text room x (take (length p) p) v
-  named_free Check.AddsNothing text e = tt
-  named_free Check.InvalidXmlPrefixBind text e = absurd (false≢true (sym e))
-  named_free Check.InvalidXmlnsPrefixBind text e = absurd (false≢true (sym e))
-  named_free Check.InvalidPrefixForXml text e = absurd (false≢true (sym e))
-  named_free Check.InvalidPrefixForXmlns text e = absurd (false≢true (sym e))
+  named_free (Ok true) text e = append_none ps vs text room x (take (length p) p) v
+  named_free (Ok false) text e = tt
+  named_free (Err Check.InvalidXmlPrefixBind) text e = absurd (false≢true (sym e))
+  named_free (Err Check.InvalidXmlnsPrefixBind) text e = absurd (false≢true (sym e))
+  named_free (Err Check.InvalidPrefixForXml) text e = absurd (false≢true (sym e))
+  named_free (Err Check.InvalidPrefixForXmlns) text e = absurd (false≢true (sym e))
 
-  declare_free : (d : PrefixDeclaration) (text : List ℕ) → refuses_named (check_by d p v) ≡ false → HoldsText ps vs (declare_of room d p v at x).answer text
+  declare_free : (d : Option PrefixDeclaration) (text : List ℕ) → refuses_named (check_by d p v) ≡ false → HoldsText ps vs (declare_of room d p v at x).answer text
   unfolding declare_of judge_of settle_of
-  declare_free Nothing text e = tt
-  declare_free Default text e = append_none ps vs text room x (take 0 p) v
-  declare_free Named text e = named_free (reserved_bind p v) text e
+  declare_free None text e = tt
+  declare_free (Some Default) text e = append_none ps vs text room x (take 0 p) v
+  declare_free (Some Named) text e = named_free (reserved_bind p v) text e
 
-  named_stops : (k : NamedCheck) → refuses_named k ≡ true → is_done (settle_of room (named_of k p at) p v x).answer ≡ false
+  named_stops : (k : Result Bool ReservedBinding) → refuses_named k ≡ true → is_done (settle_of room (named_of k p at) p v x).answer ≡ false
   unfolding named_of settle_of
-  named_stops Check.Fine e = absurd (false≢true e)
-  named_stops Check.AddsNothing e = absurd (false≢true e)
-  named_stops Check.InvalidXmlPrefixBind e = refl
-  named_stops Check.InvalidXmlnsPrefixBind e = refl
-  named_stops Check.InvalidPrefixForXml e = refl
-  named_stops Check.InvalidPrefixForXmlns e = refl
+  named_stops (Ok true) e = absurd (false≢true e)
+  named_stops (Ok false) e = absurd (false≢true e)
+  named_stops (Err Check.InvalidXmlPrefixBind) e = refl
+  named_stops (Err Check.InvalidXmlnsPrefixBind) e = refl
+  named_stops (Err Check.InvalidPrefixForXml) e = refl
+  named_stops (Err Check.InvalidPrefixForXmlns) e = refl
 
   -- what it refuses stops the call
-  declare_stops : (d : PrefixDeclaration) → refuses_named (check_by d p v) ≡ true → is_done (declare_of room d p v at x).answer ≡ false
+  declare_stops : (d : Option PrefixDeclaration) → refuses_named (check_by d p v) ≡ true → is_done (declare_of room d p v at x).answer ≡ false
   unfolding declare_of judge_of
-  declare_stops Nothing e = absurd (false≢true e)
-  declare_stops Default e = absurd (false≢true e)
-  declare_stops Named e = named_stops (reserved_bind p v) e
+  declare_stops None e = absurd (false≢true e)
+  declare_stops (Some Default) e = absurd (false≢true e)
+  declare_stops (Some Named) e = named_stops (reserved_bind p v) e
 
-  check_text : (d : PrefixDeclaration) → refuses_named (check_by d p v) ≡ true → refused_text (reserved_bind p v) p v ≡ refused_text (check_by d p v) p v
-  check_text Nothing e = absurd (false≢true e)
-  check_text Default e = absurd (false≢true e)
-  check_text Named e = refl
+  check_text : (d : Option PrefixDeclaration) → refuses_named (check_by d p v) ≡ true → refused_text (reserved_bind p v) p v ≡ refused_text (check_by d p v) p v
+  check_text None e = absurd (false≢true e)
+  check_text (Some Default) e = absurd (false≢true e)
+  check_text (Some Named) e = refl
 
 module _ (s : List ℕ) (room : Room) where
   abbrev Holds : List Declaration → Type 0

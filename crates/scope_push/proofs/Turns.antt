@@ -4,13 +4,15 @@ use Prim.Native.Nat.{ℕ, ◌<◌}
 use mathlib.Core.Path.{◌≡◌, refl, sym, ap, subst, ◌∙◌}
 use mathlib.Core.Bool.{true, false}
 use mathlib.Core.List.{List, [], ◌∷◌}
-use mathlib.Core.Logic.{⊎_elim, ◌⊎◌}
+use mathlib.Core.Logic.{⊎_elim, ◌⊎◌, inl, inr}
+use native.Mathlib.Omega.{arith}
 use lib.ListN.{length}
+use Rattle.std.specs.Prelude.{None, Some, Ok, Err}
 use Rattle.tag_step.specs.declared.Span.{Span}
 use Rattle.tag_step.specs.declared.Place.{Place}
 use Rattle.tag_step.specs.declared.Place.TheVariants.{Next}
-use Rattle.tag_step.specs.declared.Answer.{Answer}
-use Rattle.tag_step.specs.declared.Answer.TheVariants.{End, DoubleQ, SingleQ, Unquoted, Empty, ExpectedEq, ExpectedValue, UnquotedValue, ExpectedQuote, Duplicated, KeyTableFull, BadState}
+use Rattle.tag_step.specs.Answer.{Answer}
+use Rattle.tag_step.specs.declared.Attr.TheVariants.{DoubleQ, SingleQ, Unquoted, Empty}
 use Rattle.tag_step.specs.declared.Found.{Found}
 use Rattle.tag_step.specs.Read.{recover_of}
 use Rattle.tag_step.specs.Next.{place_good, standing, unchecked_of}
@@ -18,42 +20,39 @@ use Rattle.tag_step.specs.Run.{is_end, cons_unless, answers_of}
 use Rattle.tag_step.proofs.Run.{todo}
 use Rattle.tag_step.proofs.Unchecked.{unchecked_less, unchecked_stands, unchecked_turn, unchecked_opened}
 use Rattle.tag_parts.specs.Parts.{key_part, value_part}
-use Rattle.scope_table.specs.Answer.{is_done}
+use Rattle.scope_table.specs.Answer.{is_done, NamespaceResult}
 use Rattle.scope_table.specs.Lent.{given, lent_of}
 use Rattle.scope_table.specs.declared.Head.{Head}
-use Rattle.scope_table.specs.declared.NamespaceResult.{NamespaceResult}
-use Rattle.scope_table.specs.declared.NamespaceResult.TheVariants.{Done}
 use Rattle.scope_change.specs.declared.Room.{Room}
-use Rattle.scope_push.specs.Push.{Declaration, declaration_of, declaration_then, declarations_of, tag_answers, tag_declarations, declare_one}
+use Rattle.scope_push.specs.declared.Bounds.{Bounds}
+use Rattle.scope_push.specs.Push.{bounds, quoted_of, Declaration, declaration_of, declaration_then, declarations_of, tag_answers, tag_declarations, declare_one}
 use Rattle.scope_push.specs.Run.{then_given, one_by_one}
 
 -- an attribute with quotes
 abbrev pub Quoted : Answer → Span → Span → Type 0
-Quoted a k v = (a ≡ DoubleQ k v) ⊎ (a ≡ SingleQ k v)
+Quoted a k v = (a ≡ Some (Ok (DoubleQ k v))) ⊎ (a ≡ Some (Ok (SingleQ k v)))
 
--- one without
-pub record Unquoting (a : Answer) : Type 0 where
-  pub no_double : (k v : Span) → a ≡ DoubleQ k v → ⊥
-  pub no_single : (k v : Span) → a ≡ SingleQ k v → ⊥
+pub quoted_is : (a : Answer) (b : Bounds) → quoted_of a ≡ Some b → Quoted a b.key b.value
+unfolding quoted_of
+quoted_is None b e = let z : ◌≡◌ {A = ℕ} 0 1 = cc in absurd (omega arith)
+quoted_is (Some (Ok (DoubleQ k v))) b e = let z : bounds k v ≡ b = cc in inl (ap (λ (x : Bounds). Some (Ok (DoubleQ x.key x.value))) z)
+quoted_is (Some (Ok (SingleQ k v))) b e = let z : bounds k v ≡ b = cc in inr (ap (λ (x : Bounds). Some (Ok (SingleQ x.key x.value))) z)
+quoted_is (Some (Ok (Unquoted k v))) b e = let z : ◌≡◌ {A = ℕ} 0 1 = cc in absurd (omega arith)
+quoted_is (Some (Ok (Empty k))) b e = let z : ◌≡◌ {A = ℕ} 0 1 = cc in absurd (omega arith)
+quoted_is (Some (Err x)) b e = let z : ◌≡◌ {A = ℕ} 0 1 = cc in absurd (omega arith)
 
 takes : (s : List ℕ) (more : List Answer) (a : Answer) (k v : Span) → Quoted a k v → declarations_of s (cons_unless (is_end a) a more) ≡ declaration_of (key_part s a) (value_part s a) k v ∷ declarations_of s more
 unfolding declarations_of declaration_then cons_unless is_end
 takes s more a k v = ⊎_elim (λ e. rw e) (λ e. rw e)
 
-stops : (s : List ℕ) (more : List Answer) (a : Answer) → Unquoting a → declarations_of s (cons_unless (is_end a) a more) ≡ []
-unfolding declarations_of declaration_then cons_unless is_end
-stops s more End t = refl
-stops s more (DoubleQ k v) t = absurd (t.no_double k v refl)
-stops s more (SingleQ k v) t = absurd (t.no_single k v refl)
-stops s more (Unquoted k v) t = refl
-stops s more (Empty k) t = refl
-stops s more (ExpectedEq p) t = refl
-stops s more (ExpectedValue l) t = refl
-stops s more (UnquotedValue p) t = refl
-stops s more (ExpectedQuote l q) t = refl
-stops s more (Duplicated this earlier) t = refl
-stops s more (KeyTableFull this) t = refl
-stops s more BadState t = refl
+stops : (s : List ℕ) (more : List Answer) (a : Answer) → quoted_of a ≡ None → declarations_of s (cons_unless (is_end a) a more) ≡ []
+unfolding declarations_of declaration_then cons_unless is_end quoted_of
+stops s more None e = refl
+stops s more (Some (Ok (DoubleQ k v))) e = let z : ◌≡◌ {A = ℕ} 0 1 = cc in absurd (omega arith)
+stops s more (Some (Ok (SingleQ k v))) e = let z : ◌≡◌ {A = ℕ} 0 1 = cc in absurd (omega arith)
+stops s more (Some (Ok (Unquoted k v))) e = refl
+stops s more (Some (Ok (Empty k))) e = refl
+stops s more (Some (Err x)) e = refl
 
 -- the declarations from a place on
 abbrev pub declarations_at : List ℕ → Place → List Declaration
@@ -81,7 +80,7 @@ module _ (s : List ℕ) (place : Place) (stands : place_good s place ≡ true) (
 
   module _ (room : Room) (t r : List ℕ) (h : Head) where
     -- a refusal of the iterator, or its end
-    pub turn_stops : Unquoting x.answer → given Done t r h ≡ one_by_one room (declarations_at s place) t r h
+    pub turn_stops : quoted_of x.answer ≡ None → given (Ok tt) t r h ≡ one_by_one room (declarations_at s place) t r h
     unfolding one_by_one
     turn_stops w = sym (ap (λ (ds : List Declaration). one_by_one room ds t r h) (turn ∙ stops s _ x.answer w))
 
@@ -95,7 +94,7 @@ module _ (s : List ℕ) (place : Place) (stands : place_good s place ≡ true) (
         turn_takes = ap (λ (ds : List Declaration). one_by_one room ds t r h) (turn ∙ takes s _ x.answer k v q) ∙ rw (sym same, sym gave)
 
         -- an attribute that goes in, or declares nothing
-        pub turn_goes_on : b ≡ Done → one_by_one room (declarations_at s place) t r h ≡ one_by_one room (declarations_at s x.place) t' r' h'
+        pub turn_goes_on : b ≡ Ok tt → one_by_one room (declarations_at s place) t r h ≡ one_by_one room (declarations_at s x.place) t' r' h'
         unfolding then_given
         turn_goes_on d = turn_takes ∙ rw d
 

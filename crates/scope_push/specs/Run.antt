@@ -1,10 +1,9 @@
 -- Declarations one by one on lent memory, as far as it goes: what is done before it is known whether all of them go through.
-use Rattle.std.specs.Prelude.{ℕ, List, [], ◌∷◌}
+use Rattle.std.specs.Prelude.{ℕ, List, [], ◌∷◌, Ok}
 use Rattle.scan.specs.First.{pick}
 use Rattle.scope_table.specs.Answer.{is_done}
 use Rattle.scope_table.specs.Lent.{Given, given, lent_of}
 use Rattle.scope_table.specs.declared.Head.{Head}
-use Rattle.scope_table.specs.declared.NamespaceResult.TheVariants.{Done}
 use Rattle.scope_change.specs.declared.Room.{Room}
 use Rattle.scope_push.specs.Push.{Declaration, declare_one}
 
@@ -14,5 +13,5 @@ then_given g next = pick (is_done g.answer) (next g.text g.records g.head) g
 
 -- what is added of them until one is refused or not held
 unfoldable pub one_by_one : Room → List Declaration → (text records : List ℕ) → Head → Given
-one_by_one room [] text records head = given Done text records head
+one_by_one room [] text records head = given (Ok tt) text records head
 one_by_one room (d ∷ more) text records head = then_given (lent_of (declare_one room d) text records head) (one_by_one room more)

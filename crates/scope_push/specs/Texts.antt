@@ -1,27 +1,27 @@
 -- The text that a refused `push` holds: that of the first declaration of its tag that 12 to 15 refuse.
-use Rattle.std.specs.Prelude.{ℕ, Bool, true, false, List, [], ◌∷◌}
+use Rattle.std.specs.Prelude.{ℕ, Bool, true, false, List, [], ◌∷◌, Option, Some, None, Result, Ok, Err}
 use Rattle.scan.specs.First.{pick}
 use Rattle.name.specs.Bind.{reserved_bind, refused_text}
 use Rattle.name.specs.declared.PrefixDeclaration.{PrefixDeclaration}
-use Rattle.name.specs.declared.PrefixDeclaration.TheVariants.{Nothing, Default, Named}
-use Rattle.name.specs.declared.NamedCheck.{NamedCheck}
-use Rattle.name.specs.declared.NamedCheck.TheVariants as Check
+use Rattle.name.specs.declared.PrefixDeclaration.TheVariants.{Default, Named}
+use Rattle.name.specs.declared.ReservedBinding.{ReservedBinding}
+use Rattle.name.specs.declared.ReservedBinding.TheVariants as Check
 use Rattle.scope_push.specs.Push.{Declaration}
 
 -- the checks that refuse
-abbrev pub refuses_named : NamedCheck → Bool
-refuses_named Check.Fine = false
-refuses_named Check.AddsNothing = false
-refuses_named Check.InvalidXmlPrefixBind = true
-refuses_named Check.InvalidXmlnsPrefixBind = true
-refuses_named Check.InvalidPrefixForXml = true
-refuses_named Check.InvalidPrefixForXmlns = true
+abbrev pub refuses_named : Result Bool ReservedBinding → Bool
+refuses_named (Ok true) = false
+refuses_named (Ok false) = false
+refuses_named (Err Check.InvalidXmlPrefixBind) = true
+refuses_named (Err Check.InvalidXmlnsPrefixBind) = true
+refuses_named (Err Check.InvalidPrefixForXml) = true
+refuses_named (Err Check.InvalidPrefixForXmlns) = true
 
 -- Only a named prefix is checked.
-abbrev pub check_by : PrefixDeclaration → (prefix value : List ℕ) → NamedCheck
-check_by Nothing p v = Check.AddsNothing
-check_by Default p v = Check.Fine
-check_by Named p v = reserved_bind p v
+abbrev pub check_by : Option PrefixDeclaration → (prefix value : List ℕ) → Result Bool ReservedBinding
+check_by None p v = Ok false
+check_by (Some Default) p v = Ok true
+check_by (Some Named) p v = reserved_bind p v
 
 -- the text that the first refusal is to hold, none where none is refused
 unfoldable pub refused_in : List Declaration → List ℕ

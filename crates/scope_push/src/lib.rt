@@ -13,13 +13,13 @@ ghost use Rattle.scope_table.specs.Answer.{numbered_change};
 ghost use Rattle.scope_table.specs.Lent.{given, lent_of};
 ghost use Rattle.scope_change.specs.Change.{whole};
 ghost use Rattle.scope_change.specs.Asked.{CanAppend};
-ghost use Rattle.scope_push.specs.Push.{declaration_of, declare_one, tag_declarations, push_of};
+ghost use Rattle.scope_push.specs.Push.{quoted_of, declaration_of, declare_one, tag_declarations, push_of};
 ghost use Rattle.scope_push.specs.Run.{one_by_one};
 
 use scope_change::Room;
 use scope_declare::Places;
-use scope_table::{Changed, Form, Head, NamespaceResolver, NamespaceResult, Outcome};
-use tag_step::{Answer, Place, Span};
+use scope_table::{Changed, Head, NamespaceError, NamespaceResolver, Outcome};
+use tag_step::{Answer, Attr, Place, Span};
 
 // One attribute, whose key and value stand at these spans of the tag, goes in if it is a declaration.
 fn attribute<'a>(
@@ -51,6 +51,27 @@ fn attribute<'a>(
     scope_declare::declare_in(text, records, head, room, declares, prefix, value, at)
 }
 
+// Where the key and the value of an attribute stand in the tag.
+#[derive(Clone, Copy)]
+struct Bounds {
+    key: Span,
+    value: Span,
+}
+
+// Those of an attribute in quotes: XML mode, in which the tag is read, has no other.
+#[tactic(auto, unfolding(crate::specs::Push::quoted_of))]
+fn quoted(answer: Answer) -> Option<Bounds>
+    ensures { result ≡ quoted_of answer }
+{
+    match answer {
+        Some(Ok(Attr::DoubleQ(key, value) | Attr::SingleQ(key, value))) => Some(Bounds {
+            key,
+            value,
+        }),
+        _ => None,
+    }
+}
+
 // Each attribute of the tag in turn, up to the first refusal of the iterator, which is success, or of `add`, which is
 // handed on with what went in before it; or until what is lent does not hold one.
 fn take_all<'s>(
@@ -66,12 +87,13 @@ fn take_all<'s>(
 {
     let mut place = Place::Next(from);
     let mut left = head;
+    // No `for` over a range: the loop counts no index, it steps the iterator until its end.
     loop {
         let step = tag_step::step_unchecked(tag, false, place);
         let answer = step.answer;
-        let (Answer::DoubleQ(key, value) | Answer::SingleQ(key, value)) = answer else {
+        let Some(found) = quoted(answer) else {
             return Outcome {
-                answer: NamespaceResult::Done,
+                answer: Ok(()),
                 head: left,
             };
         };
@@ -81,13 +103,12 @@ fn take_all<'s>(
             left,
             tag_parts::key_part(tag, answer),
             tag_parts::value_part(tag, answer),
-            key,
-            value,
+            found.key,
+            found.value,
         );
-        let verdict = added.answer;
-        let NamespaceResult::Done = verdict else {
+        if added.answer.is_err() {
             return added;
-        };
+        }
         left = added.head;
         place = step.place;
     }
@@ -105,39 +126,31 @@ pub fn push_in<'s>(
     ensures { given result.answer text.new records.new result.head
         ≡ lent_of (push_of tag.now from) text.old records.old head }
 {
-    let found = scope_table::form_in(text, records, head);
-    match found {
-        Form::Good => {}
-        Form::Bad => {
-            return Outcome {
-                answer: NamespaceResult::BadResolver,
-                head: head,
-            };
-        }
-        Form::WrongLength => {
-            return Outcome {
-                answer: NamespaceResult::WrongLength,
-                head: head,
-            };
-        }
+    if let Err(wrong) = scope_table::form_in(text, records, head) {
+        return Outcome {
+            answer: Err(NamespaceError::from(wrong)),
+            head,
+        };
     }
     if NamespaceResolver::DEEPEST <= head.level {
         return Outcome {
-            answer: NamespaceResult::TooDeeplyNested(NamespaceResolver::DEEPEST),
-            head: head,
+            answer: Err(NamespaceError::TooDeeplyNested(NamespaceResolver::DEEPEST)),
+            head,
         };
     }
     let mut raised = head;
     raised.level = head.level + 1;
     let out = take_all(text, records, raised, tag, from);
-    let answer = out.answer;
-    let NamespaceResult::LendMore = answer else {
+    let Err(refused) = out.answer else {
+        return out;
+    };
+    let NamespaceError::LendMore = refused else {
         return out;
     };
     scope_change::take_back(text, records, head.used, head.count);
     Outcome {
-        answer: NamespaceResult::LendMore,
-        head: head,
+        answer: Err(NamespaceError::LendMore),
+        head,
     }
 }
 
@@ -152,10 +165,10 @@ pub fn push(r: NamespaceResolver, tag: &[u8], from: usize) -> Changed
     let answer = out.answer;
     let left = out.head;
     Changed {
-        answer: answer,
+        answer,
         resolver: NamespaceResolver {
-            text: text,
-            records: records,
+            text,
+            records,
             head: left,
         },
     }

@@ -8,6 +8,7 @@ use lib.Dec.{leb}
 use lib.ListN.{length, take, drop, replicate, length-append, length-replicate, replicate-append-replicate}
 use lib.Seq.{take_at, drop_at, take_all, take-append-add}
 use borrow.Author.Tests.{leb-true, le-leb}
+use Rattle.std.specs.Prelude.{Ok, Err}
 use Rattle.scan.specs.Bytes.{bytes, bytes_from}
 use Rattle.scan.specs.Lists.{over}
 use Rattle.scope_table.specs.Lists.{all_zero, cut}
@@ -16,7 +17,7 @@ use Rattle.scope_table.specs.Table.{TEXT, NUMBERS, LIMIT, built_in, built_in_row
 use Rattle.scope_table.specs.Answer.{changed}
 use Rattle.scope_table.specs.Lent.{holds_of, fits_of, given, held_of, fresh_in}
 use Rattle.scope_table.specs.declared.Head.{Head}
-use Rattle.scope_table.specs.declared.NamespaceResult.TheVariants.{Done, LendMore, WrongLength}
+use Rattle.scope_table.specs.declared.NamespaceError.TheVariants.{LendMore, WrongLength}
 use Rattle.scope_table.proofs.Lists.{and_left, and_right, and_take}
 use Rattle.scope_table.proofs.Pad.{zeros_all, holds_within}
 use Rattle.scope_table.proofs.Full.{fits_full}
@@ -89,16 +90,16 @@ module _ (text records : List ℕ) (head : Head) where
   abbrev WithinCapacity : Bool → Type 0
   WithinCapacity t = (leb (length text) TEXT && leb (length records) NUMBERS) ≡ t
 
-  pub fresh_wrong : WithinCapacity false → given WrongLength text records head ≡ fresh_in text records head
+  pub fresh_wrong : WithinCapacity false → given (Err WrongLength) text records head ≡ fresh_in text records head
   unfolding fresh_in
   fresh_wrong w = rw w
 
   module _ (w : WithinCapacity true) where
-    fresh_held : fresh_in text records head ≡ held_of text records head (changed Done fresh_of)
+    fresh_held : fresh_in text records head ≡ held_of text records head (changed (Ok tt) fresh_of)
     unfolding fresh_in
     fresh_held = rw w
 
-    pub fresh_more : fits_of (length text) (length records) 73 2 ≡ false → given LendMore text records head ≡ fresh_in text records head
+    pub fresh_more : fits_of (length text) (length records) 73 2 ≡ false → given (Err LendMore) text records head ≡ fresh_in text records head
     unfolding held_of
     fresh_more f = sym (fresh_held ∙ rw (fresh_is, f))
 
@@ -109,7 +110,7 @@ module _ (text records : List ℕ) (head : Head) where
       (holds_within NUMBERS (length records) (row_at 2) (omega arith) (and_right (holds_of TEXT (length text) 73) _ f)).1,
     )
 
-    pub fresh_done : fits_of (length text) (length records) 73 2 ≡ true → given Done (over (cut text 0) 0 built_in) (over (cut records 0) 0 built_in_rows) (head_of 73 2 0 LIMIT) ≡ fresh_in text records head
+    pub fresh_done : fits_of (length text) (length records) 73 2 ≡ true → given (Ok tt) (over (cut text 0) 0 built_in) (over (cut records 0) 0 built_in_rows) (head_of 73 2 0 LIMIT) ≡ fresh_in text records head
     unfolding held_of
     fresh_done f =
         let l = fresh_lent f in
@@ -121,7 +122,7 @@ module _ (text records : List ℕ) (head : Head) where
         sym (fresh_held ∙ rw (fresh_is, f, t, r))
 
 -- In memory of full size it is the fresh resolver itself.
-pub fresh_full : (text records : List ℕ) (head : Head) → length text ≡ TEXT → length records ≡ NUMBERS → fresh_in text records head ≡ given Done fresh_of.text fresh_of.records fresh_of.head
+pub fresh_full : (text records : List ℕ) (head : Head) → length text ≡ TEXT → length records ≡ NUMBERS → fresh_in text records head ≡ given (Ok tt) fresh_of.text fresh_of.records fresh_of.head
 unfolding held_of
 fresh_full text records head t r =
     let b = built_in_length in

@@ -10,6 +10,7 @@ use native.Mathlib.Omega.{arith}
 use lib.Dec.{eqb, leb}
 use lib.ListN.{length, take, drop}
 use borrow.Author.Tests.{eqb-true, leb-true, eq-eqb, le-leb}
+use Rattle.std.specs.Prelude.{Result, Ok, Err}
 use Rattle.scan.specs.First.{pick}
 use Rattle.scan.specs.Bytes.{same_bytes}
 use Rattle.scope_table.specs.Lists.{all_below, all_zero}
@@ -19,8 +20,8 @@ use Rattle.scope_table.specs.Lent.{stands_for, holds_of, fits_of, lent, form_of}
 use Rattle.scope_table.specs.declared.Head.{Head}
 use Rattle.scope_table.specs.declared.NamespaceBinding.{NamespaceBinding}
 use Rattle.scope_table.specs.declared.NamespaceResolver.{NamespaceResolver}
-use Rattle.scope_table.specs.declared.Form as Found
-use Rattle.scope_table.specs.declared.Form.TheVariants as Is
+use Rattle.scope_table.specs.declared.FormError.{FormError}
+use Rattle.scope_table.specs.declared.FormError.TheVariants as Is
 use Rattle.scope_table.proofs.Lists.{and_left, and_right, and_take, all_at, all_of}
 use Rattle.scope_table.proofs.Turns.{text_next, text_grows, linked, link_on, risen, rise_on}
 use Rattle.scope_table.proofs.Pad.{pad_table, holds_within, fits_rows}
@@ -151,7 +152,7 @@ module _ (text records : List ℕ) (head : Head) (ok : Formed text records head)
 
 -- What decides the form.
 
-form_by_lem : (t v : Bool) (f : Found.Form) → pick t (pick v Is.Good Is.Bad) Is.WrongLength ≡ f → f ≡ Is.Good → (t ≡ true) × (v ≡ true)
+form_by_lem : (t v : Bool) (f : Result (Unit {0}) FormError) → pick t (pick v (Ok tt) (Err Is.BadResolver)) (Err Is.WrongLength) ≡ f → f ≡ Ok tt → (t ≡ true) × (v ≡ true)
 form_by_lem true true f e g = (refl, refl)
 form_by_lem true false f e g =
     let z : ◌≡◌ {A = ℕ} 0 1 = cc in
@@ -160,7 +161,7 @@ form_by_lem false v f e g =
     let z : ◌≡◌ {A = ℕ} 0 1 = cc in
     absurd (omega arith)
 
-form_off : (t v : Bool) (f : Found.Form) → pick t (pick v Is.Good Is.Bad) Is.WrongLength ≡ f → f ≡ Is.Bad → (t ≡ true) × (v ≡ false)
+form_off : (t v : Bool) (f : Result (Unit {0}) FormError) → pick t (pick v (Ok tt) (Err Is.BadResolver)) (Err Is.WrongLength) ≡ f → f ≡ Err Is.BadResolver → (t ≡ true) × (v ≡ false)
 form_off true false f e g = (refl, refl)
 form_off true true f e g =
     let z : ◌≡◌ {A = ℕ} 0 1 = cc in
@@ -169,7 +170,7 @@ form_off false v f e g =
     let z : ◌≡◌ {A = ℕ} 0 1 = cc in
     absurd (omega arith)
 
-form_none : (t v : Bool) (f : Found.Form) → pick t (pick v Is.Good Is.Bad) Is.WrongLength ≡ f → f ≡ Is.WrongLength → t ≡ false
+form_none : (t v : Bool) (f : Result (Unit {0}) FormError) → pick t (pick v (Ok tt) (Err Is.BadResolver)) (Err Is.WrongLength) ≡ f → f ≡ Err Is.WrongLength → t ≡ false
 form_none false v f e g = refl
 form_none true true f e g =
     let z : ◌≡◌ {A = ℕ} 0 1 = cc in
@@ -197,24 +198,24 @@ module _ (text records : List ℕ) (head : Head) where
   unfolding valid_of
   valid_lent = pad_table TEXT NUMBERS text records head
 
-  pub form_wrong : Fits false → form_of text records head ≡ Is.WrongLength
+  pub form_wrong : Fits false → form_of text records head ≡ Err Is.WrongLength
   unfolding form_of lent
   form_wrong f = rw f
 
-  pub form_bad : Fits true → is_table text records head ≡ false → form_of text records head ≡ Is.Bad
+  pub form_bad : Fits true → is_table text records head ≡ false → form_of text records head ≡ Err Is.BadResolver
   unfolding form_of lent
   form_bad f e = rw (f, valid_lent, e)
 
-  pub form_good : Fits true → is_table text records head ≡ true → form_of text records head ≡ Is.Good
+  pub form_good : Fits true → is_table text records head ≡ true → form_of text records head ≡ Ok tt
   unfolding form_of lent
   form_good f e = rw (f, valid_lent, e)
 
   -- and what each form says
-  pub is_wrong : form_of text records head ≡ Is.WrongLength → Fits false
+  pub is_wrong : form_of text records head ≡ Err Is.WrongLength → Fits false
   unfolding form_of lent
   is_wrong e = form_none (fits_of (length text) (length records) head.used head.count) (valid_of (stands_for text records head)) _ e refl
 
-  pub is_bad : form_of text records head ≡ Is.Bad → Fits true × (valid_of (stands_for text records head) ≡ false)
+  pub is_bad : form_of text records head ≡ Err Is.BadResolver → Fits true × (valid_of (stands_for text records head) ≡ false)
   unfolding form_of lent
   is_bad e = form_off (fits_of (length text) (length records) head.used head.count) (valid_of (stands_for text records head)) _ e refl
 
@@ -227,7 +228,7 @@ module _ (text records : List ℕ) (head : Head) where
       let n = holds_within NUMBERS (length records) (row_at head.count) m (and_right (holds_of TEXT (length text) head.used) _ f) in
       record { fit = f; valid = v; table = t; bytes_most = b.0; bytes_lent = b.1; numbers_most = n.0; rows_lent = n.1 }
 
-  pub ready : form_of text records head ≡ Is.Good → Ready text records head
+  pub ready : form_of text records head ≡ Ok tt → Ready text records head
   unfolding form_of lent
   ready e =
       let g = form_by_lem (fits_of (length text) (length records) head.used head.count) (valid_of (stands_for text records head)) _ e refl in

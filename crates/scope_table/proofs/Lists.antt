@@ -1,17 +1,20 @@
 -- Laws of the tests and writes of specs/Lists, each for one turn of a loop or for the end of one.
 use Prim.Native.Nat.{ℕ, zero, suc, ◌+◌, ◌-◌, ◌≤◌, ◌<◌}
-use mathlib.Core.Path.{◌≡◌, refl, sym, ◌∙◌, subst}
+use mathlib.Core.Path.{◌≡◌, refl, sym, ap, ◌∙◌, subst}
 use mathlib.Core.Bool.{Bool, true, false, ◌&&◌, and-true, false≢true, true≢false}
-use mathlib.Core.List.{List, [], ◌∷◌, append_assoc}
+use mathlib.Core.List.{List, [], ◌∷◌}
 use mathlib.Core.Logic.{⊎_elim}
 use native.Mathlib.Nat.{not-suc-le-zero, eq-or-lt_of_le}
 use native.Mathlib.Numerals.{add-one}
 use native.Mathlib.Omega.{arith}
 use lib.Bits.{bit_or, or_add_and, and_le_l, and_le_r}
 use lib.Dec.{eqb}
-use lib.ListN.{length, take, drop, set, get_or, replicate, length-append, length-drop, length-set, length-replicate, drop_of_length-le, take-append-drop}
-use lib.Seq.{drop-cons, length-take-le, drop-drop, take-suc-set}
+use lib.ListN.{length, take, drop, get_or, replicate, length-append, length-drop, length-replicate, drop_of_length-le, take-append-drop}
+use lib.Seq.{drop-cons, length-take-le, drop-drop}
 use borrow.Author.Tests.{eq-eqb, ne_eqb, eqb-true, eqb-false}
+use borrow.Rule.Slice.PartMut.{put_mid, post_of}
+use Rattle.std.specs.List.{fold}
+use Rattle.std.proofs.lemmas.List.{replicate-append-replicate}
 use Rattle.scope_table.specs.Lists.{all_below, all_zero, cut}
 
 -- Rows of tests.
@@ -83,6 +86,13 @@ pub and_swap : (a b c : Bool) → (a && (b && c)) ≡ ((a && b) && c)
 and_swap true b c = refl
 and_swap false b c = refl
 
+-- the bits of a list, with those so far
+pub zero_fold : (bits : ℕ) (t : List ℕ) → eqb (fold bit_or bits t) 0 ≡ (eqb bits 0 && all_zero t)
+unfolding all_zero
+zero_fold bits [] = sym (and-true (eqb bits 0))
+zero_fold bits (x ∷ t) =
+    zero_fold (bit_or bits x) t ∙ ap (λ (b : Bool). b && all_zero t) (or_none bits x) ∙ sym (and_swap (eqb bits 0) (eqb x 0) (all_zero t))
+
 -- one element more goes in
 pub zero_next : (r : Bool) (bits : ℕ) (t : List ℕ) (i : ℕ) → i < length t → r ≡ (eqb bits 0 && all_zero (drop i t)) → r ≡ (eqb (bit_or bits (get_or t i 0)) 0 && all_zero (drop (i + 1) t))
 unfolding all_zero
@@ -127,12 +137,22 @@ pub cut_zeros : (t : List ℕ) (n : ℕ) → all_zero (drop n t) ≡ true → cu
 unfolding cut
 cut_zeros t n e = rw (← length-drop n t, ← zeros_are (drop n t) e) (take-append-drop n t)
 
--- one zero more
-pub cut_next : (t : List ℕ) (i : ℕ) → i < length t → cut (set t i 0) (i + 1) ≡ cut t i
+-- zeros are written up to where only zeros stand
+pub cut_filled : (t : List ℕ) (from to : ℕ) (zeros : List ℕ) → from ≤ to → to ≤ length t → zeros ≡ replicate (length (take (to - from) (drop from t))) 0 → all_zero (drop to t) ≡ true → put_mid from (to - from) t zeros ≡ cut t from
 unfolding cut
-cut_next t i h =
-    let s : length t - i ≡ suc (length t - suc i) = omega arith in
-    rw (add-one i, take-suc-set t i 0 h, length-set t i 0, s, append_assoc (take i t) (0 ∷ []) (replicate (length t - suc i) 0))
+cut_filled t from to zeros h l z w =
+    let some : length (take (to - from) (drop from t)) ≡ to - from = length-take-le (to - from) (drop from t) (omega (arith, length-drop from t)) in
+    let to_is : from + (to - from) ≡ to = omega arith in
+    let rest : post_of from (to - from) t ≡ replicate (length t - to) 0 = drop-drop (to - from) from t ∙ rw to_is (zeros_are (drop to t) w ∙ ap (λ (n : ℕ). replicate n 0) (length-drop to t)) in
+    let all : (to - from) + (length t - to) ≡ length t - from = omega arith in
+    rw (z, some, rest, replicate-append-replicate {A = ℕ} (to - from) (length t - to) 0, all) refl
+
+-- or over all
+pub cut_all : (t : List ℕ) → cut t 0 ≡ replicate (length t) 0
+unfolding cut
+cut_all t =
+    let all : length t - 0 ≡ length t = omega arith in
+    rw all
 
 pub cut_length : (t : List ℕ) (n : ℕ) → n ≤ length t → length (cut t n) ≡ length t
 unfolding cut

@@ -1,18 +1,17 @@
 -- Lent memory that may be shorter than the capacity: it is the resolver whose missing places are unused and zero. Every rule
 -- is that resolver's; lent memory has two answers of its own, and both leave everything as it was.
-use Rattle.std.specs.Prelude.{ℕ, Bool, ◌&&◌, ◌||◌, List, length, take, leb, ltb}
+use Rattle.std.specs.Prelude.{ℕ, Bool, ◌&&◌, ◌||◌, List, length, take, leb, ltb, Result, Ok, Err}
 use Rattle.scan.specs.First.{pick}
 use Rattle.scan.specs.Lists.{pad_to}
 use Rattle.scope_table.specs.Records.{row_at}
 use Rattle.scope_table.specs.Table.{TEXT, NUMBERS, resolver_of, valid_of, fresh_of}
-use Rattle.scope_table.specs.Answer.{changed}
+use Rattle.scope_table.specs.Answer.{changed, NamespaceResult}
 use Rattle.scope_table.specs.declared.Head.{Head}
 use Rattle.scope_table.specs.declared.NamespaceResolver.{NamespaceResolver}
 use Rattle.scope_table.specs.declared.Changed.{Changed}
-use Rattle.scope_table.specs.declared.NamespaceResult.{NamespaceResult}
-use Rattle.scope_table.specs.declared.NamespaceResult.TheVariants.{Done, LendMore, WrongLength}
-use Rattle.scope_table.specs.declared.Form as Found
-use Rattle.scope_table.specs.declared.Form.TheVariants as Is
+use Rattle.scope_table.specs.declared.NamespaceError.TheVariants.{LendMore, WrongLength}
+use Rattle.scope_table.specs.declared.FormError.{FormError}
+use Rattle.scope_table.specs.declared.FormError.TheVariants as Is
 
 -- the resolver that lent memory stands for
 abbrev pub stands_for : (text records : List ℕ) → Head → NamespaceResolver
@@ -50,20 +49,20 @@ unfoldable pub held_of : (text records : List ℕ) → Head → Changed → Give
 held_of text records head c =
     pick (fits_of (length text) (length records) c.resolver.head.used c.resolver.head.count)
     (given c.answer (take (length text) c.resolver.text) (take (length records) c.resolver.records) c.resolver.head)
-    (given LendMore text records head)
+    (given (Err LendMore) text records head)
 
 -- Any call that changes a resolver, on lent memory.
 unfoldable pub lent_of : (NamespaceResolver → Changed) → (text records : List ℕ) → Head → Given
 lent_of call text records head =
-    lent (given WrongLength text records head) (λ x. held_of text records head (call x)) text records head
+    lent (given (Err WrongLength) text records head) (λ x. held_of text records head (call x)) text records head
 
 -- The fresh resolver in lent memory, whatever stood there: all of what is lent is written. It needs 73 bytes and two rows.
 unfoldable pub fresh_in : (text records : List ℕ) → Head → Given
 fresh_in text records head =
     pick (leb (length text) TEXT && leb (length records) NUMBERS)
-    (held_of text records head (changed Done fresh_of))
-    (given WrongLength text records head)
+    (held_of text records head (changed (Ok tt) fresh_of))
+    (given (Err WrongLength) text records head)
 
 -- What each call tests first.
-unfoldable pub form_of : (text records : List ℕ) → Head → Found.Form
-form_of text records head = lent Is.WrongLength (λ x. pick (valid_of x) Is.Good Is.Bad) text records head
+unfoldable pub form_of : (text records : List ℕ) → Head → Result (Unit {0}) FormError
+form_of text records head = lent (Err Is.WrongLength) (λ x. pick (valid_of x) (Ok tt) (Err Is.BadResolver)) text records head

@@ -21,7 +21,7 @@ ghost use Rattle.scan.specs.Lists.{over};
 ghost use Rattle.scope_table.specs.Lists.{all_zero, cut};
 ghost use Rattle.scope_table.specs.Records.{row_at, record_at, row_of, value_start, value_end, prefix_in};
 ghost use Rattle.scope_table.specs.Table.{TEXT, RECORDS, NUMBERS, built_in, built_in_rows, is_record, opens_built_in, is_chain, is_rising, is_within, is_table, valid_of, fresh_of};
-ghost use Rattle.scope_table.specs.Answer.{change_numbers, form_number, told_of};
+ghost use Rattle.scope_table.specs.Answer.{change_numbers, form_number, refused_form, told_of};
 ghost use Rattle.scope_table.specs.Lent.{holds_of, fits_of, given, fresh_in, form_of};
 
 // The two arrays of a resolver: its text, and its records as numbers.
@@ -60,13 +60,11 @@ pub struct NamespaceResolver {
     pub head: Head,
 }
 
-// What a call that changes a resolver answers: `Result<(), NamespaceError>` of src/name.rs, with the three refusals that
-// fixed tables add, and two answers of lent memory alone, which no resolver of full size gives. Each case with an input that
-// gives it. The two numbers of 12 to 15 are the bounds of the text that the crate's error holds: in the tag for `push`, in
-// the argument itself for `add`.
+// Why a call that changes a resolver does not: `NamespaceError` of src/name.rs, with the three refusals that fixed tables add,
+// and two of lent memory alone, which no resolver of full size gives. Each case with an input that gives it. The two numbers
+// of 12 to 15 are the bounds of the text that the crate's error holds: in the tag for `push`, in the argument itself for `add`.
 #[derive(Clone, Copy)]
-pub enum NamespaceResult {
-    Done,
+pub enum NamespaceError {
     // 12: `xmlns:xml="u"`, the value
     InvalidXmlPrefixBind(usize, usize),
     // 13: `xmlns:xmlns="u"`, the value
@@ -94,35 +92,33 @@ pub enum NamespaceResult {
 // An answer, and the resolver that it leaves.
 #[derive(Clone, Copy)]
 pub struct Changed {
-    pub answer: NamespaceResult,
+    pub answer: Result<(), NamespaceError>,
     pub resolver: NamespaceResolver,
 }
 
 // An answer, and the head that a call on lent memory leaves.
 #[derive(Clone, Copy)]
 pub struct Outcome {
-    pub answer: NamespaceResult,
+    pub answer: Result<(), NamespaceError>,
     pub head: Head,
 }
 
-// What a call finds before it goes on: a resolver of the form that it asks for; another, which is 20; or memory that does not
-// hold what its head says, which is 99.
+// Why a call does not go on after the test that it begins with.
 #[derive(Clone, Copy)]
-pub enum Form {
-    Good,
-    Bad,
+pub enum FormError {
+    // 20: a resolver that is not of the form
+    BadResolver,
+    // 99: memory that does not hold what its head says
     WrongLength,
 }
 
-impl Form {
-    // As a number, for a call that answers no more than this.
-    pub fn number(self) -> usize
-        ensures { result ≡ form_number self }
-    {
-        match self {
-            Form::Good => 0,
-            Form::Bad => 20,
-            Form::WrongLength => 99,
+impl From<FormError> for NamespaceError {
+    ghost from_gives = { λ e error. error ≡ refused_form e };
+
+    fn from(e: FormError) -> NamespaceError {
+        match e {
+            FormError::BadResolver => NamespaceError::BadResolver,
+            FormError::WrongLength => NamespaceError::WrongLength,
         }
     }
 }
@@ -180,9 +176,9 @@ impl NamespaceResolver {
         let made = fresh_in(&mut text, &mut records, none);
         let head = made.head;
         NamespaceResolver {
-            text: text,
-            records: records,
-            head: head,
+            text,
+            records,
+            head,
         }
     }
 
@@ -190,8 +186,7 @@ impl NamespaceResolver {
     pub fn valid(self) -> bool
         ensures { result ≡ valid_of self }
     {
-        let head = self.head;
-        is_table(&self.text, &self.records, head)
+        is_table(&self.text, &self.records, self.head)
     }
 }
 
@@ -238,22 +233,8 @@ pub fn clear_bytes(t: &mut [u8], from: usize, to: usize)
     requires { (to ≤ length t.old) × (all_zero (drop to t.old) ≡ true) }
     ensures { t.new ≡ cut t.old from }
 {
-    let mut i = from;
-    while i < to {
-        t[i] = 0;
-        i += 1;
-    }
-}
-
-// The same in numbers.
-fn clear_numbers(t: &mut [usize], from: usize, to: usize)
-    requires { (to ≤ length t.old) × (all_zero (drop to t.old) ≡ true) }
-    ensures { t.new ≡ cut t.old from }
-{
-    let mut i = from;
-    while i < to {
-        t[i] = 0;
-        i += 1;
+    if from < to {
+        t[from..to].fill(0);
     }
 }
 
@@ -264,7 +245,7 @@ pub fn clear_rows(records: &mut [usize], from: usize, to: usize)
 {
     let first = NamespaceResolver::ROW * from;
     let last = NamespaceResolver::ROW * to;
-    clear_numbers(records, first, last);
+    records[first..last].fill(0);
 }
 
 // From record `from` on, whatever stands there.
@@ -273,8 +254,9 @@ pub fn clear_rows_from(records: &mut [usize], from: usize)
     ensures { records.new ≡ cut records.old (row_at from) }
 {
     let first = NamespaceResolver::ROW * from;
-    let numbers = records.len();
-    clear_numbers(records, first, numbers);
+    if first < records.len() {
+        records[first..].fill(0);
+    }
 }
 
 // What is left of `all` when `some` are taken, and 0 where there are fewer: `usize::saturating_sub`.
@@ -288,33 +270,26 @@ pub fn saturating_sub(all: usize, some: usize) -> usize
 }
 
 // Whether a list of this length that is lent holds what is in use.
+#[tactic(auto, unfolding(crate::specs::Lent::holds_of))]
 fn holds(capacity: usize, lent: usize, in_use: usize) -> bool
     ensures { result ≡ holds_of capacity lent in_use }
 {
-    if capacity < lent {
-        return false;
-    }
-    if in_use <= lent {
-        return true;
-    }
-    capacity < in_use
+    lent <= capacity && (in_use <= lent || capacity < in_use)
 }
 
 // Whether lent memory of these lengths holds what is in use.
 pub fn fits(bytes: usize, numbers: usize, used: usize, count: usize) -> bool
     ensures { result ≡ fits_of bytes numbers used count }
 {
-    if !holds(NamespaceResolver::TEXT, bytes, used) {
-        return false;
-    }
     if NamespaceResolver::RECORDS < count {
-        return numbers <= NamespaceResolver::NUMBERS;
+        return holds(NamespaceResolver::TEXT, bytes, used) && numbers <= NamespaceResolver::NUMBERS;
     }
-    holds(
-        NamespaceResolver::NUMBERS,
-        numbers,
-        NamespaceResolver::ROW * count,
-    )
+    holds(NamespaceResolver::TEXT, bytes, used)
+        && holds(
+            NamespaceResolver::NUMBERS,
+            numbers,
+            NamespaceResolver::ROW * count,
+        )
 }
 
 // Whether a text is zero from `from` on, as far as it is lent. All bytes go into one by `|`, with no early exit, so that LLVM
@@ -322,13 +297,8 @@ pub fn fits(bytes: usize, numbers: usize, used: usize, count: usize) -> bool
 fn zero_rest(t: &[u8], from: usize) -> bool
     ensures { result ≡ all_zero (drop from t.now) }
 {
-    let mut bits: u8 = 0;
-    let mut i = from;
-    while i < t.len() {
-        bits = bits | t[i];
-        i += 1;
-    }
-    bits == 0
+    let rest = t.get(from..).unwrap_or(&[]);
+    rest.iter().fold(0, |bits, x| bits | *x) == 0
 }
 
 // The same. In a long text the vector loop begins at an index that is a multiple of 16: where the text itself begins at such an
@@ -341,31 +311,22 @@ fn zero_bytes(t: &[u8], from: usize) -> bool
         return zero_rest(t, from);
     }
     let mut bits: u8 = 0;
-    let mut i = from;
-    while i % 16 != 0 {
-        if t.len() <= i {
-            return bits == 0;
+    for i in from..t.len() {
+        if i % 16 == 0 {
+            return bits == 0 && zero_rest(t, i);
         }
-        bits = bits | t[i];
-        i += 1;
+        bits |= t[i];
     }
-    if bits != 0 {
-        return false;
-    }
-    zero_rest(t, i)
+    bits == 0
 }
 
-// The same of numbers: a row begins at a multiple of 32 bytes from the first.
+// The same of numbers: a row begins at a multiple of 32 bytes from the first. One function for both types would need a trait of
+// `|` with its laws, which is longer than these two lines.
 fn zero_numbers(t: &[usize], from: usize) -> bool
     ensures { result ≡ all_zero (drop from t.now) }
 {
-    let mut bits: usize = 0;
-    let mut i = from;
-    while i < t.len() {
-        bits = bits | t[i];
-        i += 1;
-    }
-    bits == 0
+    let rest = t.get(from..).unwrap_or(&[]);
+    rest.iter().fold(0, |bits, x| bits | *x) == 0
 }
 
 // Whether each record's text starts where the one before it ends, the last ends at `used`, and no level is below the one before it
@@ -376,10 +337,9 @@ fn in_order(records: &[usize], used: usize, count: usize, top: usize) -> bool
     requires { (row_at count ≤ length records.now) × (used ≤ TEXT) × (count ≤ RECORDS) }
     ensures { result ≡ (is_chain (record_at records.now) used count && is_rising (record_at records.now) count top) }
 {
-    let mut i: usize = 0;
     let mut at: usize = 0;
     let mut before: usize = 0;
-    while i < count {
+    for i in 0..count {
         let b = record_at(records, i);
         let prefix_len = b.prefix_len;
         let value_len = b.value_len;
@@ -395,16 +355,13 @@ fn in_order(records: &[usize], used: usize, count: usize, top: usize) -> bool
         }
         before = here;
         at = at + prefix_len + value_len;
-        i += 1;
     }
-    if at != used {
-        return false;
-    }
-    before <= top
+    at == used && before <= top
 }
 
 // Whether two texts are the same. All bits that differ go into one byte, with no early exit, so that LLVM makes a vector loop
-// of it: nearly every text that is asked about begins as it should.
+// of it: nearly every text that is asked about begins as it should. It goes by index, since a `zip` asks both texts at each byte
+// whether they end.
 fn same_all(x: &[u8], y: &[u8]) -> bool
     ensures { result ≡ same_bytes x.now y.now }
 {
@@ -412,10 +369,8 @@ fn same_all(x: &[u8], y: &[u8]) -> bool
         return false;
     }
     let mut bits: u8 = 0;
-    let mut i = 0;
-    while i < x.len() {
-        bits = bits | (x[i] ^ y[i]);
-        i += 1;
+    for i in 0..x.len() {
+        bits |= x[i] ^ y[i];
     }
     bits == 0
 }
@@ -424,69 +379,56 @@ fn same_all(x: &[u8], y: &[u8]) -> bool
 fn begins_built_in(text: &[u8]) -> bool
     ensures { result ≡ same_bytes (take 73 text.now) built_in }
 {
-    if text.len() < NamespaceResolver::BUILT_IN_LEN {
-        return false;
-    }
-    let built_in = NamespaceResolver::BUILT_IN;
-    same_all(&text[..NamespaceResolver::BUILT_IN_LEN], &built_in)
+    NamespaceResolver::BUILT_IN_LEN <= text.len()
+        && same_all(
+            &text[..NamespaceResolver::BUILT_IN_LEN],
+            &NamespaceResolver::BUILT_IN,
+        )
 }
 
 // Whether a record has these lengths and this level.
+#[tactic(auto, unfolding(crate::specs::Table::is_record))]
 fn is_record(b: NamespaceBinding, prefix_len: usize, value_len: usize, level: usize) -> bool
     ensures { result ≡ is_record b prefix_len value_len level }
 {
-    if b.prefix_len != prefix_len {
-        return false;
-    }
-    if b.value_len != value_len {
-        return false;
-    }
-    b.level == level
+    b.prefix_len == prefix_len && b.value_len == value_len && b.level == level
 }
 
 // Whether a resolver opens with the built-ins.
+#[tactic(auto, unfolding(crate::specs::Table::opens_built_in))]
 fn opens_built_in<'a>(text: &'a [u8], records: &'a [usize], count: usize) -> bool
     requires { row_at count ≤ length records.now }
     ensures { result ≡ opens_built_in text.now (record_at records.now) count }
 {
-    if count < NamespaceResolver::BUILT_INS {
-        return false;
-    }
-    if !begins_built_in(text) {
-        return false;
-    }
-    let xml = record_at(records, 0);
-    if !is_record(
-        xml,
-        NamespaceResolver::XML_PREFIX_LEN,
-        NamespaceResolver::XML_URI_LEN,
-        0,
-    ) {
-        return false;
-    }
-    let xmlns = record_at(records, 1);
-    is_record(
-        xmlns,
-        NamespaceResolver::XMLNS_PREFIX_LEN,
-        NamespaceResolver::XMLNS_URI_LEN,
-        0,
-    )
+    NamespaceResolver::BUILT_INS <= count
+        && begins_built_in(text)
+        && is_record(
+            record_at(records, 0),
+            NamespaceResolver::XML_PREFIX_LEN,
+            NamespaceResolver::XML_URI_LEN,
+            0,
+        )
+        && is_record(
+            record_at(records, 1),
+            NamespaceResolver::XMLNS_PREFIX_LEN,
+            NamespaceResolver::XMLNS_URI_LEN,
+            0,
+        )
 }
 
 // Whether counts and level are within the capacity.
+#[tactic(auto, unfolding(crate::specs::Table::is_within))]
 fn is_within(used: usize, count: usize, level: usize) -> bool
     ensures { result ≡ is_within used count level }
 {
-    if NamespaceResolver::TEXT < used {
-        return false;
-    }
-    if NamespaceResolver::RECORDS < count {
-        return false;
-    }
-    level <= NamespaceResolver::DEEPEST
+    used <= NamespaceResolver::TEXT
+        && count <= NamespaceResolver::RECORDS
+        && level <= NamespaceResolver::DEEPEST
 }
 
-// Whether no call refuses what is lent with 20. What is cheap is tested first.
+// Whether no call refuses what is lent with 20. What is cheap is tested first, by an `if` of its own: behind `&&` the check does
+// not find from it that the other tests may be called.
+#[tactic(auto, using(crate::proofs::Lists::and_swap), unfolding(crate::specs::Table::is_table, crate::specs::Table::is_clear))]
 fn is_table<'a>(text: &'a [u8], records: &'a [usize], head: Head) -> bool
     requires { fits_of (length text.now) (length records.now) head.used head.count ≡ true }
     ensures { result ≡ is_table text.now records.now head }
@@ -497,42 +439,44 @@ fn is_table<'a>(text: &'a [u8], records: &'a [usize], head: Head) -> bool
     if !is_within(used, count, level) {
         return false;
     }
-    if !opens_built_in(text, records, count) {
-        return false;
-    }
-    if !in_order(records, used, count, level) {
-        return false;
-    }
-    if !zero_bytes(text, used) {
-        return false;
-    }
-    zero_numbers(records, NamespaceResolver::ROW * count)
+    opens_built_in(text, records, count)
+        && in_order(records, used, count, level)
+        && zero_bytes(text, used)
+        && zero_numbers(records, NamespaceResolver::ROW * count)
 }
 
 // What each call tests first: whether what the head says is in use is lent, and then whether the resolver that this stands for
 // is of the form that refusal 20 asks for.
-pub fn form_in<'a>(text: &'a [u8], records: &'a [usize], head: Head) -> Form
+pub fn form_in<'a>(text: &'a [u8], records: &'a [usize], head: Head) -> Result<(), FormError>
     ensures { result ≡ form_of text.now records.now head }
 {
     let used = head.used;
     let count = head.count;
     if !fits(text.len(), records.len(), used, count) {
-        return Form::WrongLength;
+        return Err(FormError::WrongLength);
     }
     if !is_table(text, records, head) {
-        return Form::Bad;
+        return Err(FormError::BadResolver);
     }
-    Form::Good
+    Ok(())
+}
+
+// What the test of the form found, as a number, for a call that answers no more than this.
+pub fn form_number(found: Result<(), FormError>) -> usize
+    ensures { result ≡ form_number found }
+{
+    match found {
+        Ok(()) => 0,
+        Err(FormError::BadResolver) => 20,
+        Err(FormError::WrongLength) => 99,
+    }
 }
 
 // Whether no more is lent than the capacity.
 fn within_capacity(bytes: usize, numbers: usize) -> bool
     ensures { result ≡ (leb bytes TEXT && leb numbers NUMBERS) }
 {
-    if NamespaceResolver::TEXT < bytes {
-        return false;
-    }
-    numbers <= NamespaceResolver::NUMBERS
+    bytes <= NamespaceResolver::TEXT && numbers <= NamespaceResolver::NUMBERS
 }
 
 // Whatever the lent memory held: the fresh resolver stands there then. `head` comes back where nothing is written.
@@ -544,8 +488,8 @@ pub fn fresh_in(text: &mut [u8], records: &mut [usize], head: Head) -> Outcome
     let numbers = records.len();
     if !within_capacity(bytes, numbers) {
         return Outcome {
-            answer: NamespaceResult::WrongLength,
-            head: head,
+            answer: Err(NamespaceError::WrongLength),
+            head,
         };
     }
     if !fits(
@@ -555,15 +499,15 @@ pub fn fresh_in(text: &mut [u8], records: &mut [usize], head: Head) -> Outcome
         NamespaceResolver::BUILT_INS,
     ) {
         return Outcome {
-            answer: NamespaceResult::LendMore,
-            head: head,
+            answer: Err(NamespaceError::LendMore),
+            head,
         };
     }
-    clear_bytes(text, 0, bytes);
-    clear_numbers(records, 0, numbers);
+    text.fill(0);
+    records.fill(0);
     write_built_in(text, records);
     Outcome {
-        answer: NamespaceResult::Done,
+        answer: Ok(()),
         head: Head {
             used: NamespaceResolver::BUILT_IN_LEN,
             count: NamespaceResolver::BUILT_INS,
@@ -597,22 +541,25 @@ fn write_built_in(text: &mut [u8], records: &mut [usize])
 }
 
 // The numbers of an answer.
-pub fn change_numbers(answer: NamespaceResult) -> Told
+#[tactic(auto, unfolding(crate::specs::Answer::change_numbers))]
+pub fn change_numbers(answer: Result<(), NamespaceError>) -> Told
     ensures { result ≡ told_of (change_numbers answer) }
 {
-    match answer {
-        NamespaceResult::Done => told_of(0, 0, 0),
-        NamespaceResult::InvalidXmlPrefixBind(a, e) => told_of(12, a, e),
-        NamespaceResult::InvalidXmlnsPrefixBind(a, e) => told_of(13, a, e),
-        NamespaceResult::InvalidPrefixForXml(a, e) => told_of(14, a, e),
-        NamespaceResult::InvalidPrefixForXmlns(a, e) => told_of(15, a, e),
-        NamespaceResult::TooManyBindings(limit) => told_of(16, limit, 0),
-        NamespaceResult::TooDeeplyNested(depth) => told_of(17, depth, 0),
-        NamespaceResult::BindingTableFull => told_of(18, 0, 0),
-        NamespaceResult::TextFull => told_of(19, 0, 0),
-        NamespaceResult::BadResolver => told_of(20, 0, 0),
-        NamespaceResult::LendMore => told_of(98, 0, 0),
-        NamespaceResult::WrongLength => told_of(99, 0, 0),
+    let Err(error) = answer else {
+        return told_of(0, 0, 0);
+    };
+    match error {
+        NamespaceError::InvalidXmlPrefixBind(a, e) => told_of(12, a, e),
+        NamespaceError::InvalidXmlnsPrefixBind(a, e) => told_of(13, a, e),
+        NamespaceError::InvalidPrefixForXml(a, e) => told_of(14, a, e),
+        NamespaceError::InvalidPrefixForXmlns(a, e) => told_of(15, a, e),
+        NamespaceError::TooManyBindings(limit) => told_of(16, limit, 0),
+        NamespaceError::TooDeeplyNested(depth) => told_of(17, depth, 0),
+        NamespaceError::BindingTableFull => told_of(18, 0, 0),
+        NamespaceError::TextFull => told_of(19, 0, 0),
+        NamespaceError::BadResolver => told_of(20, 0, 0),
+        NamespaceError::LendMore => told_of(98, 0, 0),
+        NamespaceError::WrongLength => told_of(99, 0, 0),
     }
 }
 
@@ -621,8 +568,8 @@ pub fn told_of(number: usize, first: usize, second: usize) -> Told
     ensures { result ≡ told_of (number ∷ first ∷ second ∷ []) }
 {
     Told {
-        number: number,
-        first: first,
-        second: second,
+        number,
+        first,
+        second,
     }
 }

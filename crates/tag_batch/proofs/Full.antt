@@ -9,15 +9,14 @@ use borrow.Author.Tests.{le-leb}
 use Rattle.scan.specs.First.{pick}
 use Rattle.scan.specs.Lists.{over}
 use Rattle.tag_keys.specs.Keys.{capacity}
-use Rattle.tag_step.specs.declared.Answer.{Answer}
+use Rattle.tag_step.specs.Answer.{Answer}
 use Rattle.tag_step.specs.declared.IterState.{IterState}
 use Rattle.tag_step.specs.Next.{next_of}
 use Rattle.tag_step.specs.Run.{is_end, cons_unless, run_of}
 use Rattle.tag_step.proofs.Good.{Sized, next_sized}
 use Rattle.tag_step.proofs.Lent.{full_next, full_held, full_leaves}
-use Rattle.tag_batch.specs.declared.Batch.TheVariants.{Read}
 use Rattle.tag_batch.specs.declared.Why.TheVariants.{AtEnd, LendMore}
-use Rattle.tag_batch.specs.Batch.{fives_of, left_of, Ran, ran, ahead, ran_of, tables_lent, answers_room, batched, batch_shown, read_of, batch_of}
+use Rattle.tag_batch.specs.Batch.{fives_of, left_of, Ran, ran, ahead, ran_of, tables_lent, answers_room, read, batched, batch_shown, read_of, batch_of}
 
 -- one step
 full_step : (n : ℕ) (s : List ℕ) (st : IterState) → Sized st → ran_of (suc n) s st ≡ pick (is_end (next_of s st).answer) (ran [] (next_of s st).state AtEnd) (ahead (next_of s st).answer (ran_of n s (next_of s st).state))
@@ -65,7 +64,7 @@ full_never (suc n) s st z e =
 
 -- So a batch on such tables is the run's.
 pub full_batch : (s : List ℕ) (st : IterState) (out : List ℕ) → Sized st →
-    batch_of s st out ≡ batched (Read (length (run_of (answers_room out) s st)) (left_of (answers_room out) s st).place (left_of (answers_room out) s st).count (ran_of (answers_room out) s st).why) (left_of (answers_room out) s st).starts (left_of (answers_room out) s st).ends (left_of (answers_room out) s st).hashes (over out 0 (fives_of (run_of (answers_room out) s st)))
+    batch_of s st out ≡ batched (read (length (run_of (answers_room out) s st)) (left_of (answers_room out) s st).place (left_of (answers_room out) s st).count (ran_of (answers_room out) s st).why) (left_of (answers_room out) s st).starts (left_of (answers_room out) s st).ends (left_of (answers_room out) s st).hashes (over out 0 (fives_of (run_of (answers_room out) s st)))
 unfolding batch_of tables_lent read_of batch_shown
 full_batch s st out z =
     rw (le-leb (length st.starts) capacity (omega (arith, z.starts)), le-leb (length st.ends) capacity (omega (arith, z.ends)), le-leb (length st.hashes) capacity (omega (arith, z.hashes)), full_answers (answers_room out) s st z, full_state (answers_room out) s st z)

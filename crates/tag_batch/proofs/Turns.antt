@@ -7,59 +7,61 @@ use native.Mathlib.Omega.{arith}
 use lib.ListN.{length, get_or}
 use lib.Dec.{eqb}
 use borrow.Author.Tests.{eq-eqb, ne_eqb}
+use Rattle.std.proofs.Common.{Option, Some, None}
+use Rattle.std.specs.Prelude.{Ok, Err, Result}
 use Rattle.scan.specs.Lists.{over}
 use Rattle.scan.proofs.Lists.{over_length, over_none, over_more}
-use Rattle.tag_step.specs.declared.Answer.{Answer}
-use Rattle.tag_step.specs.declared.Answer.TheVariants.{End, DoubleQ, SingleQ, Unquoted, Empty, ExpectedEq, ExpectedValue, UnquotedValue, ExpectedQuote, Duplicated, KeyTableFull, BadState}
+use Rattle.tag_step.specs.Answer.{Answer}
+use Rattle.tag_step.specs.declared.Attr.TheVariants.{DoubleQ, SingleQ, Unquoted, Empty}
+use Rattle.tag_step.specs.declared.AttrError.TheVariants.{ExpectedEq, ExpectedValue, UnquotedValue, ExpectedQuote, Duplicated, KeyTableFull, BadState}
 use Rattle.tag_step.specs.declared.IterState.{IterState}
 use Rattle.tag_step.specs.Numbers.{numbers_of}
 use Rattle.tag_step.specs.Run.{is_end}
 use Rattle.tag_step.specs.declared.Place.{Place}
 use Rattle.tag_step.specs.declared.Advance.{Advance}
-use Rattle.tag_step.specs.declared.Stepped.{Stepped}
-use Rattle.tag_step.specs.declared.Stepped.TheVariants as Stop
 use Rattle.tag_step.specs.Next.{keys_lent, step_of, lent_state}
 use Rattle.tag_keys.specs.Sieve.{SieveOf, sieve_left}
 use Rattle.tag_keys.proofs.Sieve.{sieve_goes_on}
 use Rattle.tag_step.specs.Lent.{whole_next, needs_more, stepped_of, taken, kept_in, taken_on}
 use Rattle.tag_step.proofs.Lent.{made_held, made_answer, made_leaves, made_good, made_starts, made_ends, made_hashes, more_needs, more_starts, more_ends, more_hashes}
 use Rattle.tag_batch.specs.declared.Five.{Five}
-use Rattle.tag_batch.specs.declared.Batch.TheVariants.{Read}
+use Rattle.tag_batch.specs.declared.BatchRead.{BatchRead}
+use Rattle.tag_batch.specs.declared.WrongTables.{WrongTables}
 use Rattle.tag_batch.specs.declared.Why.{Why}
 use Rattle.tag_batch.specs.declared.Why.TheVariants.{OutFull, AtEnd, LendMore}
-use Rattle.tag_batch.specs.Batch.{five_of, listed, fives_of, Ran, ran, ahead, ran_of, answers_room, Batched, batched, batch_shown, read_of, Ripe}
+use Rattle.tag_batch.specs.Batch.{five_of, listed, fives_of, Ran, ran, ahead, ran_of, answers_room, Batched, batched, batch_shown, read_of, Ripe, read}
 
 -- every answer is five numbers
 pub five_length : (a : Answer) → length (five_of a) ≡ 5
 unfolding five_of numbers_of
-five_length End = refl
-five_length (DoubleQ k v) = refl
-five_length (SingleQ k v) = refl
-five_length (Unquoted k v) = refl
-five_length (Empty k) = refl
-five_length (ExpectedEq p) = refl
-five_length (ExpectedValue l) = refl
-five_length (UnquotedValue p) = refl
-five_length (ExpectedQuote l q) = refl
-five_length (Duplicated this earlier) = refl
-five_length (KeyTableFull this) = refl
-five_length BadState = refl
+five_length None = refl
+five_length (Some (Ok (DoubleQ k v))) = refl
+five_length (Some (Ok (SingleQ k v))) = refl
+five_length (Some (Ok (Unquoted k v))) = refl
+five_length (Some (Ok (Empty k))) = refl
+five_length (Some (Err (ExpectedEq p))) = refl
+five_length (Some (Err (ExpectedValue l))) = refl
+five_length (Some (Err (UnquotedValue p))) = refl
+five_length (Some (Err (ExpectedQuote l q))) = refl
+five_length (Some (Err (Duplicated this earlier))) = refl
+five_length (Some (Err (KeyTableFull this))) = refl
+five_length (Some (Err BadState)) = refl
 
 -- the end, and no other answer, has the number 0
 pub end_code : (a : Answer) → is_end a ≡ eqb (get_or (five_of a) 0 0) 0
 unfolding five_of numbers_of is_end
-end_code End = refl
-end_code (DoubleQ k v) = refl
-end_code (SingleQ k v) = refl
-end_code (Unquoted k v) = refl
-end_code (Empty k) = refl
-end_code (ExpectedEq p) = refl
-end_code (ExpectedValue l) = refl
-end_code (UnquotedValue p) = refl
-end_code (ExpectedQuote l q) = refl
-end_code (Duplicated this earlier) = refl
-end_code (KeyTableFull this) = refl
-end_code BadState = refl
+end_code None = refl
+end_code (Some (Ok (DoubleQ k v))) = refl
+end_code (Some (Ok (SingleQ k v))) = refl
+end_code (Some (Ok (Unquoted k v))) = refl
+end_code (Some (Ok (Empty k))) = refl
+end_code (Some (Err (ExpectedEq p))) = refl
+end_code (Some (Err (ExpectedValue l))) = refl
+end_code (Some (Err (UnquotedValue p))) = refl
+end_code (Some (Err (ExpectedQuote l q))) = refl
+end_code (Some (Err (Duplicated this earlier))) = refl
+end_code (Some (Err (KeyTableFull this))) = refl
+end_code (Some (Err BadState)) = refl
 
 -- as the code asks it
 pub code_end : (a : Answer) (x : Five) → listed x ≡ five_of a → x.code ≡ 0 → is_end a ≡ true
@@ -68,13 +70,17 @@ code_end a x e z = end_code a ∙ ap (λ (l : List ℕ). eqb (get_or l 0 0) 0) (
 pub code_other : (a : Answer) (x : Five) → listed x ≡ five_of a → (x.code ≡ 0 → ⊥) → is_end a ≡ false
 code_other a x e z = end_code a ∙ ap (λ (l : List ℕ). eqb (get_or l 0 0) 0) (sym e) ∙ ne_eqb x.code 0 z
 
+-- a batch from its parts
+pub left_is : (x : BatchRead) (n : ℕ) (why : Why) → x.answers ≡ n → x.why ≡ why → ◌≡◌ {A = Result BatchRead WrongTables} (Ok x) (read n x.place x.count why)
+left_is x n why a w = rw (sym a, sym w) refl
+
 -- n answers stand at the front already, and these follow
 abbrev pub shown_from : ℕ → List ℕ → Ran → Batched
 shown_from n out x =
-    batched (Read (n + length x.answers) x.state.place x.state.count x.why) x.state.starts x.state.ends x.state.hashes
+    batched (read (n + length x.answers) x.state.place x.state.count x.why) x.state.starts x.state.ends x.state.hashes
     (over out (5 * n) (fives_of x.answers))
 
-shown_none : (n : ℕ) (out : List ℕ) (st : IterState) (why : Why) → shown_from n out (ran [] st why) ≡ batched (Read n st.place st.count why) st.starts st.ends st.hashes out
+shown_none : (n : ℕ) (out : List ℕ) (st : IterState) (why : Why) → shown_from n out (ran [] st why) ≡ batched (read n st.place st.count why) st.starts st.ends st.hashes out
 unfolding fives_of
 shown_none n out st why =
     let e : n + 0 ≡ n = omega arith in
@@ -128,7 +134,7 @@ module _ (s : List ℕ) (run : ℕ → IterState → Ran) (first : IterState) (w
     went x e = t.same ∙ rw (more, e)
 
     -- no answer: nothing is written
-    pub turn_stops : (left : IterState) (why : Why) → ((m : ℕ) → run (suc m) st ≡ ran [] left why) → batched (Read n left.place left.count why) left.starts left.ends left.hashes out ≡ batch_shown whole (run (answers_room whole) first)
+    pub turn_stops : (left : IterState) (why : Why) → ((m : ℕ) → run (suc m) st ≡ ran [] left why) → batched (read n left.place left.count why) left.starts left.ends left.hashes out ≡ batch_shown whole (run (answers_room whole) first)
     turn_stops left why e = sym (went (ran [] left why) (e (answers_room whole - (n + 1))) ∙ shown_none n out left why)
 
     -- an answer: it is written, and the loop goes on
@@ -143,7 +149,7 @@ module _ (s : List ℕ) (run : ℕ → IterState → Ran) (first : IterState) (w
         }
 
   -- the output is full
-  pub turn_full : length out < 5 * n + 5 → run zero st ≡ ran [] st OutFull → batched (Read n st.place st.count OutFull) st.starts st.ends st.hashes out ≡ batch_shown whole (run (answers_room whole) first)
+  pub turn_full : length out < 5 * n + 5 → run zero st ≡ ran [] st OutFull → batched (read n st.place st.count OutFull) st.starts st.ends st.hashes out ≡ batch_shown whole (run (answers_room whole) first)
   turn_full h e =
       let z = room_none whole n (omega (arith, t.size)) t.fits in
       sym (t.same ∙ rw (z, e) (shown_none n out st OutFull))
@@ -169,25 +175,25 @@ module _ (s : List ℕ) (st : IterState) (m : ℕ) where
     ran_next h = rw (held, answer, h, leaves)
 
 pub goes_full : (s : List ℕ) (first : IterState) (whole : List ℕ) (n : ℕ) (st : IterState) (out : List ℕ) → TurnOf s (runs s) first whole n st out → length out < 5 * n + 5
-    → batched (Read n st.place st.count OutFull) st.starts st.ends st.hashes out ≡ read_of s first whole
+    → batched (read n st.place st.count OutFull) st.starts st.ends st.hashes out ≡ read_of s first whole
 unfolding read_of ran_of
 goes_full s first whole n st out t h = turn_full s (runs s) first whole n st out t h refl
 
 -- What `step_in` has done, from a state that is ripe.
 module _ (s : List ℕ) (place : Place) (html checks : Bool) (starts ends hashes : List ℕ) (count : ℕ) (p : Ripe s (lent_state place html checks starts ends hashes count))
-    (r : Stepped) (starts' ends' hashes' : List ℕ) (e : taken r starts' ends' hashes' count ≡ taken_on (keys_lent starts ends hashes count) (step_of s html checks (keys_lent starts ends hashes count) place)) where
+    (r : Option Advance) (starts' ends' hashes' : List ℕ) (e : taken r starts' ends' hashes' count ≡ taken_on (keys_lent starts ends hashes count) (step_of s html checks (keys_lent starts ends hashes count) place)) where
   abbrev st : IterState
   st = lent_state place html checks starts ends hashes count
 
   -- a key had no place, and the tables are as they were
-  pub short_needs : r ≡ Stop.LendMore → needs_more s st ≡ true
+  pub short_needs : r ≡ None → needs_more s st ≡ true
   short_needs m = more_needs s place html checks starts ends hashes count p.starts p.ends p.hashes p.good r starts' ends' hashes' e m
 
-  pub short_left : r ≡ Stop.LendMore → lent_state place html checks starts' ends' hashes' count ≡ st
+  pub short_left : r ≡ None → lent_state place html checks starts' ends' hashes' count ≡ st
   short_left m =
       rw (more_hashes s place html checks starts ends hashes count p.starts p.ends p.hashes p.good r starts' ends' hashes' e m, more_starts s place html checks starts ends hashes count p.starts p.ends p.hashes p.good r starts' ends' hashes' e m, more_ends s place html checks starts ends hashes count p.starts p.ends p.hashes p.good r starts' ends' hashes' e m)
 
-  module _ (o : Advance) (m : r ≡ Stop.Made o) where
+  module _ (o : Advance) (m : r ≡ Some o) where
     abbrev after : IterState
     after = lent_state o.place html checks starts' ends' hashes' o.count
 
@@ -212,22 +218,22 @@ module _ (s : List ℕ) (place : Place) (html checks : Bool) (starts ends hashes
 
 -- a batch as what a state is left in
 abbrev pub stopped : ℕ → IterState → Why → List ℕ → Batched
-stopped n st why out = batched (Read n st.place st.count why) st.starts st.ends st.hashes out
+stopped n st why out = batched (read n st.place st.count why) st.starts st.ends st.hashes out
 
 -- The same of a batch.
 module _ (s : List ℕ) (first : IterState) (whole : List ℕ) (n : ℕ) (place : Place) (html checks : Bool) (starts ends hashes : List ℕ) (count : ℕ) (out : List ℕ)
     (t : TurnOf s (runs s) first whole n (lent_state place html checks starts ends hashes count) out) (room : 5 * n + 5 ≤ length out)
-    (r : Stepped) (starts' ends' hashes' : List ℕ) (e : taken r starts' ends' hashes' count ≡ taken_on (keys_lent starts ends hashes count) (step_of s html checks (keys_lent starts ends hashes count) place)) where
+    (r : Option Advance) (starts' ends' hashes' : List ℕ) (e : taken r starts' ends' hashes' count ≡ taken_on (keys_lent starts ends hashes count) (step_of s html checks (keys_lent starts ends hashes count) place)) where
   abbrev here : IterState
   here = lent_state place html checks starts ends hashes count
 
-  pub goes_short : r ≡ Stop.LendMore → batched (Read n place count LendMore) starts' ends' hashes' out ≡ read_of s first whole
+  pub goes_short : r ≡ None → batched (read n place count LendMore) starts' ends' hashes' out ≡ read_of s first whole
   unfolding read_of
   goes_short m =
       ap (λ (x : IterState). stopped n x LendMore out) (short_left s place html checks starts ends hashes count t.ripe r starts' ends' hashes' e m)
       ∙ turn_stops s (runs s) first whole n here out t room here LendMore (λ k. ran_more s here k (short_needs s place html checks starts ends hashes count t.ripe r starts' ends' hashes' e m))
 
-  module _ (o : Advance) (m : r ≡ Stop.Made o) where
+  module _ (o : Advance) (m : r ≡ Some o) where
     abbrev left : IterState
     left = lent_state o.place html checks starts' ends' hashes' o.count
 
@@ -240,7 +246,7 @@ module _ (s : List ℕ) (first : IterState) (whole : List ℕ) (n : ℕ) (place 
     leaves : stepped_of s here ≡ left
     leaves = step_leaves s place html checks starts ends hashes count t.ripe r starts' ends' hashes' e o m
 
-    pub goes_end : is_end o.answer ≡ true → batched (Read n o.place o.count AtEnd) starts' ends' hashes' out ≡ read_of s first whole
+    pub goes_end : is_end o.answer ≡ true → batched (read n o.place o.count AtEnd) starts' ends' hashes' out ≡ read_of s first whole
     unfolding read_of
     goes_end h = turn_stops s (runs s) first whole n here out t room left AtEnd (λ k. ran_end s here k held o.answer left answer leaves h)
 
@@ -250,6 +256,6 @@ module _ (s : List ℕ) (first : IterState) (whole : List ℕ) (n : ℕ) (place 
         (step_ripe s place html checks starts ends hashes count t.ripe r starts' ends' hashes' e o m)
 
 -- the sieve that a step leaves is that of the hashes that are kept then
-pub goes_sieve : (checks : Bool) (sieve hashes sieve' : List ℕ) (count : ℕ) (r : Stepped) → sieve' ≡ sieve_left checks sieve hashes (kept_in r count) → (o : Advance) → r ≡ Stop.Made o → SieveOf checks sieve' hashes o.count
+pub goes_sieve : (checks : Bool) (sieve hashes sieve' : List ℕ) (count : ℕ) (r : Option Advance) → sieve' ≡ sieve_left checks sieve hashes (kept_in r count) → (o : Advance) → r ≡ Some o → SieveOf checks sieve' hashes o.count
 goes_sieve checks sieve hashes sieve' count r e o m =
-    sieve_goes_on checks sieve hashes sieve' o.count (e ∙ ap (λ (x : Stepped). sieve_left checks sieve hashes (kept_in x count)) m)
+    sieve_goes_on checks sieve hashes sieve' o.count (e ∙ ap (λ (x : Option Advance). sieve_left checks sieve hashes (kept_in x count)) m)

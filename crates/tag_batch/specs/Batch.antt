@@ -1,18 +1,19 @@
 -- A batch: as many answers of a run as a lent output holds, five numbers each, and the iterator where it goes on. Its tables
 -- may be shorter than the capacity.
-use Rattle.std.specs.Prelude.{ℕ, zero, suc, ◌/◌, ◌≤◌, ◌≡◌, Bool, true, ◌&&◌, List, [], ◌∷◌, ◌++◌, length, take, replicate, leb}
+use Rattle.std.specs.Prelude.{ℕ, zero, suc, ◌/◌, ◌≤◌, ◌≡◌, Bool, true, ◌&&◌, List, [], ◌∷◌, ◌++◌, length, take, replicate, leb, Result, Ok, Err}
 use Rattle.scan.specs.First.{pick}
 use Rattle.scan.specs.Lists.{over}
 use Rattle.tag_keys.specs.Keys.{capacity}
-use Rattle.tag_step.specs.declared.Answer.{Answer}
+use Rattle.tag_step.specs.Answer.{Answer}
 use Rattle.tag_step.specs.declared.IterState.{IterState}
+use Rattle.tag_step.specs.declared.Place.{Place}
 use Rattle.tag_step.specs.Next.{state_good, next_of}
 use Rattle.tag_step.specs.Numbers.{numbers_of}
 use Rattle.tag_step.specs.Run.{is_end}
 use Rattle.tag_step.specs.Lent.{whole_next, needs_more, stepped_of}
 use Rattle.tag_batch.specs.declared.Five.{Five}
-use Rattle.tag_batch.specs.declared.Batch.{Batch}
-use Rattle.tag_batch.specs.declared.Batch.TheVariants.{Read, WrongTables}
+use Rattle.tag_batch.specs.declared.BatchRead.{BatchRead}
+use Rattle.tag_batch.specs.declared.WrongTables.{WrongTables}
 use Rattle.tag_batch.specs.declared.Why.{Why}
 use Rattle.tag_batch.specs.declared.Why.TheVariants.{OutFull, AtEnd, LendMore}
 
@@ -70,28 +71,32 @@ tables_lent st =
 unfoldable pub answers_room : List ℕ → ℕ
 answers_room out = length out / 5
 
+-- what a batch that was read hands back
+abbrev pub read : ℕ → Place → ℕ → Why → Result BatchRead WrongTables
+read n place count why = Ok (record { answers = n; place = place; count = count; why = why })
+
 -- what is handed back, and the lent memory then
 pub record Batched : Type 0 where
-  pub batch : Batch
+  pub batch : Result BatchRead WrongTables
   pub starts : List ℕ
   pub ends : List ℕ
   pub hashes : List ℕ
   pub out : List ℕ
 
-abbrev pub batched : Batch → (starts ends hashes out : List ℕ) → Batched
+abbrev pub batched : Result BatchRead WrongTables → (starts ends hashes out : List ℕ) → Batched
 batched b starts ends hashes out = record { batch = b; starts = starts; ends = ends; hashes = hashes; out = out }
 
 -- how many answers there are, and the place and the count that are left; what stands behind the last answer stays as it was
 unfoldable pub batch_shown : List ℕ → Ran → Batched
 batch_shown out x =
-    batched (Read (length x.answers) x.state.place x.state.count x.why) x.state.starts x.state.ends x.state.hashes
+    batched (read (length x.answers) x.state.place x.state.count x.why) x.state.starts x.state.ends x.state.hashes
     (over out 0 (fives_of x.answers))
 
 unfoldable pub read_of : List ℕ → IterState → List ℕ → Batched
 read_of s st out = batch_shown out (ran_of (answers_room out) s st)
 
 unfoldable pub batch_of : List ℕ → IterState → List ℕ → Batched
-batch_of s st out = pick (tables_lent st) (read_of s st out) (batched WrongTables st.starts st.ends st.hashes out)
+batch_of s st out = pick (tables_lent st) (read_of s st out) (batched (Err (record {})) st.starts st.ends st.hashes out)
 
 -- a state from which steps may be taken on lent tables: 7 does not answer it, and they are no longer than the capacity
 pub record Ripe (s : List ℕ) (st : IterState) : Type 0 where

@@ -5,15 +5,17 @@
 // calls.
 #![tactic(auto)]
 
-ghost use Rattle.std.specs.Prelude.{◌≡◌, [], ◌∷◌, ◌+◌, ◌≤◌, ◌<◌, length, ltb};
+ghost use Rattle.std.specs.Prelude.{◌≡◌, [], ◌∷◌, ◌+◌, ◌≤◌, ◌<◌, length, ltb, ◌&&◌, leb};
 ghost use Rattle.scan.specs.First.{pick};
 ghost use Rattle.scan.specs.Lists.{over};
+ghost use Rattle.tag_keys.specs.Keys.{capacity};
 ghost use Rattle.tag_keys.specs.Sieve.{SieveOf};
 ghost use Rattle.tag_step.specs.Next.{stands_at};
 ghost use Rattle.tag_batch.specs.Batch.{why_number, listed, five_of, Ripe, batched, read_of, batch_of};
 ghost use Rattle.tag_batch.specs.declared.Why.TheVariants.{OutFull, AtEnd};
 
-use tag_step::{Answer, Place, Span, Standing, Stepped};
+use tag_keys::CAPACITY;
+use tag_step::{Answer, Attr, AttrError, Place, Span, Standing};
 
 // Why a batch has no more answers.
 #[derive(Clone, Copy)]
@@ -29,12 +31,18 @@ pub enum Why {
 
 // What a batch leaves.
 #[derive(Clone, Copy)]
-pub enum Batch {
-    // This many answers were written; the place and the number of recorded keys with which the next call goes on.
-    Read(usize, Place, usize, Why),
-    // A table has more places than an iterator's: nothing was read or written.
-    WrongTables,
+pub struct BatchRead {
+    // how many answers were written
+    pub answers: usize,
+    // the place and the number of recorded keys with which the next call goes on
+    pub place: Place,
+    pub count: usize,
+    pub why: Why,
 }
+
+// A table has more places than an iterator's: nothing was read or written.
+#[derive(Clone, Copy)]
+pub struct WrongTables;
 
 impl Why {
     // 0 for a full output, 1 for the end, 2 where a place is lacking.
@@ -63,13 +71,7 @@ pub struct Five {
 fn values(code: usize, a: usize, b: usize, c: usize, d: usize) -> Five
     ensures { listed result ≡ code ∷ a ∷ b ∷ c ∷ d ∷ [] }
 {
-    Five {
-        code: code,
-        a: a,
-        b: b,
-        c: c,
-        d: d,
-    }
+    Five { code, a, b, c, d }
 }
 
 // The bounds of an attribute.
@@ -85,18 +87,18 @@ pub fn numbers(answer: Answer) -> Five
     ensures { listed result ≡ five_of answer }
 {
     match answer {
-        Answer::End => values(0, 0, 0, 0, 0),
-        Answer::DoubleQ(key, value) => bounds(101, key, value),
-        Answer::SingleQ(key, value) => bounds(102, key, value),
-        Answer::Unquoted(key, value) => bounds(103, key, value),
-        Answer::Empty(key) => values(104, key.start, key.end, 0, 0),
-        Answer::ExpectedEq(pos) => values(1, pos, 0, 0, 0),
-        Answer::ExpectedValue(len) => values(2, len, 0, 0, 0),
-        Answer::UnquotedValue(pos) => values(3, pos, 0, 0, 0),
-        Answer::ExpectedQuote(len, quote) => values(4, len, quote, 0, 0),
-        Answer::Duplicated(this, earlier) => values(5, this, earlier, 0, 0),
-        Answer::KeyTableFull(this) => values(6, this, 0, 0, 0),
-        Answer::BadState => values(7, 0, 0, 0, 0),
+        None => values(0, 0, 0, 0, 0),
+        Some(Ok(Attr::DoubleQ(key, value))) => bounds(101, key, value),
+        Some(Ok(Attr::SingleQ(key, value))) => bounds(102, key, value),
+        Some(Ok(Attr::Unquoted(key, value))) => bounds(103, key, value),
+        Some(Ok(Attr::Empty(key))) => values(104, key.start, key.end, 0, 0),
+        Some(Err(AttrError::ExpectedEq(pos))) => values(1, pos, 0, 0, 0),
+        Some(Err(AttrError::ExpectedValue(len))) => values(2, len, 0, 0, 0),
+        Some(Err(AttrError::UnquotedValue(pos))) => values(3, pos, 0, 0, 0),
+        Some(Err(AttrError::ExpectedQuote(len, quote))) => values(4, len, quote, 0, 0),
+        Some(Err(AttrError::Duplicated(this, earlier))) => values(5, this, earlier, 0, 0),
+        Some(Err(AttrError::KeyTableFull(this))) => values(6, this, 0, 0, 0),
+        Some(Err(AttrError::BadState)) => values(7, 0, 0, 0, 0),
     }
 }
 
@@ -122,51 +124,54 @@ fn read_good<'a>(
     sieve: &'a mut [u64],
     at: Standing,
     out: &mut [usize],
-) -> Batch
+) -> BatchRead
     requires ripe { Ripe tag.now (stands_at at starts.old ends.old hashes.old) }
     requires sieve_of { SieveOf at.checks sieve.old hashes.old at.count }
-    ensures { batched result starts.new ends.new hashes.new out.new
+    ensures { batched (Ok result) starts.new ends.new hashes.new out.new
         ≡ read_of tag.now (stands_at at starts.old ends.old hashes.old) out.old }
 {
-    let html = at.html;
-    let checks = at.checks;
-    let mut stand = at.place;
-    let mut recorded = at.count;
-    let mut n = 0;
-    let mut end = 0;
-    while out.len() - end >= 5 {
+    let mut left = BatchRead {
+        answers: 0,
+        place: at.place,
+        count: at.count,
+        why: Why::OutFull,
+    };
+    for n in 0..out.len() / 5 {
         let here = Standing {
-            place: stand,
-            html: html,
-            checks: checks,
-            count: recorded,
+            place: left.place,
+            count: left.count,
+            ..at
         };
         let step = tag_step::step_in(tag, starts, ends, hashes, sieve, here);
-        let Stepped::Made(made) = step else {
-            return Batch::Read(n, stand, recorded, Why::LendMore);
+        let Some(made) = step else {
+            left.why = Why::LendMore;
+            return left;
         };
-        let answer = made.answer;
-        stand = made.place;
-        recorded = made.count;
-        let x = numbers(answer);
+        left.place = made.place;
+        left.count = made.count;
+        let x = numbers(made.answer);
         if x.code == 0 {
-            return Batch::Read(n, stand, recorded, Why::AtEnd);
+            left.why = Why::AtEnd;
+            return left;
         }
-        put(out, end, x);
-        end += 5;
-        n += 1;
+        put(out, 5 * n, x);
+        left.answers = n + 1;
     }
-    Batch::Read(n, stand, recorded, Why::OutFull)
+    left
 }
 
 // Refusal 7 is one answer, and the end follows it.
 pub fn after_seven(room: usize) -> Why
     ensures { result ≡ pick (ltb room 10) OutFull AtEnd }
 {
-    if room < 10 {
-        return Why::OutFull;
-    }
-    Why::AtEnd
+    if room < 10 { Why::OutFull } else { Why::AtEnd }
+}
+
+// Whether no table has more places than an iterator's.
+pub fn tables_lent(starts: &[usize], ends: &[usize], hashes: &[u32]) -> bool
+    ensures { result ≡ (leb (length starts.now) capacity && (leb (length ends.now) capacity && leb (length hashes.now) capacity)) }
+{
+    starts.len() <= CAPACITY && ends.len() <= CAPACITY && hashes.len() <= CAPACITY
 }
 
 // As many answers of a run as `out` holds, five numbers each, from the place and the recorded keys that are given; the end
@@ -179,30 +184,33 @@ pub fn read_batch<'a>(
     hashes: &'a mut [u32],
     at: Standing,
     out: &mut [usize],
-) -> Batch
+) -> Result<BatchRead, WrongTables>
     ensures { batched result starts.new ends.new hashes.new out.new
         ≡ batch_of tag.now (stands_at at starts.old ends.old hashes.old) out.old }
 {
-    let place = at.place;
-    let count = at.count;
-    if starts.len() > tag_keys::CAPACITY {
-        return Batch::WrongTables;
-    }
-    if ends.len() > tag_keys::CAPACITY {
-        return Batch::WrongTables;
-    }
-    if hashes.len() > tag_keys::CAPACITY {
-        return Batch::WrongTables;
+    let Standing { place, count, .. } = at;
+    if !tables_lent(starts, ends, hashes) {
+        return Err(WrongTables);
     }
     if out.len() < 5 {
-        return Batch::Read(0, place, count, Why::OutFull);
+        return Ok(BatchRead {
+            answers: 0,
+            place,
+            count,
+            why: Why::OutFull,
+        });
     }
     if !tag_step::good_in(tag, starts, ends, hashes, count, place) {
         tag_step::clear_keys(starts, ends, hashes);
-        put(out, 0, numbers(Answer::BadState));
-        return Batch::Read(1, Place::Done, 0, after_seven(out.len()));
+        put(out, 0, numbers(Some(Err(AttrError::BadState))));
+        return Ok(BatchRead {
+            answers: 1,
+            place: Place::Done,
+            count: 0,
+            why: after_seven(out.len()),
+        });
     }
     let mut sieve = [0u64; tag_keys::SIEVE_WORDS];
     tag_keys::sieve_kept(&mut sieve, hashes, count);
-    read_good(tag, starts, ends, hashes, &mut sieve, at, out)
+    Ok(read_good(tag, starts, ends, hashes, &mut sieve, at, out))
 }

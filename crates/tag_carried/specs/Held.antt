@@ -1,7 +1,7 @@
 -- The iterator that carries its tag stands above the plain one: the tag stays, and all else is the plain iterator's.
 use Rattle.std.specs.Prelude.{ℕ, Bool, true, List}
 use Rattle.std.specs.Borrow.{Bor}
-use Rattle.tag_step.specs.declared.Answer.{Answer}
+use Rattle.tag_step.specs.Answer.{Answer}
 use Rattle.tag_step.specs.Next.{next_of, opened, with_checks}
 use Rattle.tag_carried.specs.declared.Attributes.{Attributes}
 

@@ -31,7 +31,7 @@ impl<'a> Attributes<'a> {
         ensures { result ≡ opened_on tag.entry pos html }
     {
         Attributes {
-            tag: tag,
+            tag,
             state: IterState::new(pos, html),
         }
     }

@@ -7,11 +7,11 @@ use mathlib.Core.List.{List}
 use native.Mathlib.Omega.{arith}
 use lib.ListN.{get_or}
 use borrow.Author.Tests.{eq-eqb, lt-ltb, le-ltb}
+use Rattle.std.proofs.Common.{Some, None}
 use Rattle.scan.specs.First.{first_to}
 use Rattle.scan.specs.Bytes.{part}
 use Rattle.scan.proofs.Laws.{to_first, to_skip}
 use Rattle.scan.proofs.Bytes.{and_off, same_eq}
-use Rattle.tag_keys.specs.declared.Earlier.TheVariants.{At, Nothing}
 use Rattle.tag_keys.specs.Keys.{name_at, hash_is, same_key, oldest_of, earlier_of}
 use Rattle.tag_keys.specs.Filter.{passes, filtered_oldest, filtered_of}
 
@@ -65,10 +65,10 @@ module _ (h : List ℕ → ℕ) (tag starts ends : List ℕ) (from to : ℕ) whe
 
     -- where the search stops
     module _ (k : ℕ) (here : first_to stops 0 count ≡ k) where
-      pub stops_at : k < count → At (get_or starts k 0) ≡ earlier_of tag starts ends count from to
+      pub stops_at : k < count → Some (get_or starts k 0) ≡ earlier_of tag starts ends count from to
       unfolding filtered_of filtered_oldest
       stops_at lt = sym (rw (here, lt-ltb k count lt)) ∙ filtered_agrees
 
-      pub stops_past : count ≤ k → Nothing ≡ earlier_of tag starts ends count from to
+      pub stops_past : count ≤ k → None ≡ earlier_of tag starts ends count from to
       unfolding filtered_of filtered_oldest
       stops_past le = sym (rw (here, le-ltb k count le)) ∙ filtered_agrees

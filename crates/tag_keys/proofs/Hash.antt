@@ -1,34 +1,21 @@
--- The hash over a part of the tag, byte by byte.
-use Prim.Native.Nat.{ℕ, suc, ◌+◌, ◌-◌, ◌≤◌, ◌<◌}
+-- The hash over the bytes that are left of a list, byte by byte.
+use Prim.Native.Nat.{ℕ, ◌+◌, ◌≤◌, ◌<◌}
 use mathlib.Core.Path.{◌≡◌, refl, ap}
-use mathlib.Core.List.{List, [], ◌∷◌}
+use mathlib.Core.List.{List}
 use native.Mathlib.Numerals.{add-one}
-use native.Mathlib.Omega.{arith}
-use lib.ListN.{length, get_or}
+use lib.ListN.{length, get_or, drop}
 use lib.Bits.{bit_xor}
 use lib.Seq.{drop-cons}
-use Rattle.scan.specs.Bytes.{part}
+use Rattle.std.proofs.lemmas.List.{drop_all}
 use Rattle.tag_keys.specs.Hash.{times_prime, hash_from}
 
-module _ (s : List ℕ) (i to : ℕ) where
-  part_more : i < to → to ≤ length s → part s i to ≡ get_or s i 0 ∷ part s (i + 1) to
-  unfolding part
-  part_more lt le =
-      let n : to - i ≡ suc (to - (i + 1)) = omega arith in
-      rw (n, drop-cons s i 0 (omega arith), add-one i) refl
-
-  part_none : to ≤ i → part s i to ≡ []
-  unfolding part
-  part_none le =
-      let n : to - i ≡ 0 = omega arith in
-      rw n refl
-
+module _ (xs : List ℕ) (i : ℕ) where
   -- one byte on, by what the code reads and makes
-  pub hash_more : (h b next : ℕ) → i < to → to ≤ length s → b ≡ get_or s i 0 → next ≡ times_prime (bit_xor b h) → hash_from next (part s (i + 1) to) ≡ hash_from h (part s i to)
+  pub hash_more : (h b : ℕ) → i < length xs → b ≡ get_or xs i 0 → hash_from (times_prime (bit_xor b h)) (drop (i + 1) xs) ≡ hash_from h (drop i xs)
   unfolding hash_from
-  hash_more h b next lt le e f = rw (f, e, part_more lt le) refl
+  hash_more h b lt e = rw (e, drop-cons xs i 0 lt, add-one i) refl
 
   -- none is left
-  pub hash_none : (h : ℕ) → to ≤ i → hash_from h (part s i to) ≡ h
+  pub hash_none : (h : ℕ) → length xs ≤ i → hash_from h (drop i xs) ≡ h
   unfolding hash_from
-  hash_none h le = ap (hash_from h) (part_none le)
+  hash_none h le = ap (hash_from h) (drop_all i xs le)

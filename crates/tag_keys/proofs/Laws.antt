@@ -11,15 +11,14 @@ use lib.ListN.{length, get_or, set, take, length-set}
 use lib.Seq.{get_or-set_same, get_or-set_other, ext_get_or}
 use lib.Dec.{ltb, leb}
 use borrow.Author.Tests.{eq-eqb, ne_eqb, eqb-true, lt-ltb, le-ltb, ltb-true, ltb-false, le-leb, lt-leb, leb-true, not-false}
+use Rattle.std.proofs.Common.{Option, Some, None, Result, Ok, Err}
 use Rattle.scan.specs.First.{first_to}
 use Rattle.scan.specs.Bytes.{part, same_bytes}
 use Rattle.scan.proofs.Laws.{IsFirst, to_hit, to_past, to_first, first_only}
 use Rattle.scan.proofs.Bytes.{both, same_refl, same_eq, same_ne}
 use Rattle.scan.proofs.Lists.{part_length, part_at, part_same}
-use Rattle.tag_keys.specs.declared.Earlier.{Earlier}
-use Rattle.tag_keys.specs.declared.Earlier.TheVariants.{At, Nothing}
-use Rattle.tag_keys.specs.declared.Checked.{Checked}
-use Rattle.tag_keys.specs.declared.Checked.TheVariants.{Fresh, Same, Full}
+use Rattle.tag_keys.specs.declared.KeyRefusal.{KeyRefusal}
+use Rattle.tag_keys.specs.declared.KeyRefusal.TheVariants.{Same, Full}
 use Rattle.tag_keys.specs.Hash.{hash_of}
 use Rattle.tag_keys.specs.Keys.{capacity, name_at, key_good, hash_is, key_bad, holds, count_good, table_good, KeysIn, KeyRoom, has_place, hash_for, same_key, oldest_of, earlier_of, checked_by, checked_of, written_by, count_by}
 
@@ -126,20 +125,20 @@ module _ (tag starts ends : List ℕ) (count from to : ℕ) where
       })
 
   module _ (k : ℕ) (here : oldest_of tag starts ends count from to ≡ k) where
-    pub earlier_at : k < count → earlier_of tag starts ends count from to ≡ At (get_or starts k 0)
+    pub earlier_at : k < count → earlier_of tag starts ends count from to ≡ Some (get_or starts k 0)
     unfolding earlier_of
     earlier_at h = rw (here, lt-ltb k count h)
 
-    pub earlier_past : count ≤ k → earlier_of tag starts ends count from to ≡ Nothing
+    pub earlier_past : count ≤ k → earlier_of tag starts ends count from to ≡ None
     unfolding earlier_of
     earlier_past h = rw (here, le-ltb k count h)
 
   -- the oldest key with the same bytes is answered by its start
-  pub earlier_found : (k : ℕ) → IsOldest tag starts ends count from to k → earlier_of tag starts ends count from to ≡ At (get_or starts k 0)
+  pub earlier_found : (k : ℕ) → IsOldest tag starts ends count from to k → earlier_of tag starts ends count from to ≡ Some (get_or starts k 0)
   earlier_found k o = earlier_at k (oldest_only k o) o.recorded
 
   -- nothing is answered where no recorded key has the same bytes
-  pub earlier_none : ((k : ℕ) → k < count → name_at tag starts ends k ≡ part tag from to → ⊥) → earlier_of tag starts ends count from to ≡ Nothing
+  pub earlier_none : ((k : ℕ) → k < count → name_at tag starts ends k ≡ part tag from to → ⊥) → earlier_of tag starts ends count from to ≡ None
   earlier_none none =
       earlier_past (oldest_of tag starts ends count from to) refl (by (ltb (oldest_of tag starts ends count from to) count) refl) where
         by : (t : Bool) → ltb (oldest_of tag starts ends count from to) count ≡ t → count ≤ oldest_of tag starts ends count from to
@@ -149,7 +148,7 @@ module _ (tag starts ends : List ℕ) (count from to : ℕ) where
         by false e = ltb-false (oldest_of tag starts ends count from to) count e
 
   -- A start is answered only of the oldest key with the same bytes.
-  pub earlier_is : (p : ℕ) → earlier_of tag starts ends count from to ≡ At p → (k : ℕ) × (IsOldest tag starts ends count from to k) × (get_or starts k 0 ≡ p)
+  pub earlier_is : (p : ℕ) → earlier_of tag starts ends count from to ≡ Some p → (k : ℕ) × (IsOldest tag starts ends count from to k) × (get_or starts k 0 ≡ p)
   earlier_is p e = by (ltb (oldest_of tag starts ends count from to) count) refl where
     by : (t : Bool) → ltb (oldest_of tag starts ends count from to) count ≡ t → (k : ℕ) × (IsOldest tag starts ends count from to k) × (get_or starts k 0 ≡ p)
     by true h =
@@ -161,7 +160,7 @@ module _ (tag starts ends : List ℕ) (count from to : ℕ) where
         let z : ◌≡◌ {A = ℕ} 0 1 = cc in absurd (omega arith)
 
   -- Nothing is answered only where no recorded key has the same bytes.
-  pub earlier_absent : earlier_of tag starts ends count from to ≡ Nothing → (k : ℕ) → k < count → name_at tag starts ends k ≡ part tag from to → ⊥
+  pub earlier_absent : earlier_of tag starts ends count from to ≡ None → (k : ℕ) → k < count → name_at tag starts ends k ≡ part tag from to → ⊥
   earlier_absent e k lt = by (ltb (oldest_of tag starts ends count from to) count) refl where
     by : (t : Bool) → ltb (oldest_of tag starts ends count from to) count ≡ t → name_at tag starts ends k ≡ part tag from to → ⊥
     by true h =
@@ -295,59 +294,59 @@ keys_longer starts ends hashes count tag more h same i =
 -- Verdicts
 
 -- by what a search found
-module _ (count : ℕ) (x : Earlier) where
-  pub by_same : (p : ℕ) → x ≡ At p → checked_by count x ≡ Same p
+module _ (count : ℕ) (x : Option ℕ) where
+  pub by_same : (p : ℕ) → x ≡ Some p → checked_by count x ≡ Err (Same p)
   unfolding checked_by
   by_same p e = rw e
 
-  pub by_full : x ≡ Nothing → capacity ≤ count → checked_by count x ≡ Full
+  pub by_full : x ≡ None → capacity ≤ count → checked_by count x ≡ Err Full
   unfolding checked_by
   by_full e h = rw (e, le-ltb count capacity h)
 
-  pub by_fresh : x ≡ Nothing → count < capacity → checked_by count x ≡ Fresh (count + 1)
+  pub by_fresh : x ≡ None → count < capacity → checked_by count x ≡ Ok (count + 1)
   unfolding checked_by
   by_fresh e h = rw (e, lt-ltb count capacity h)
 
 module _ (tag : List ℕ) (checks : Bool) (starts ends : List ℕ) (count from to : ℕ) where
-  pub checked_off : checks ≡ false → checked_of tag checks starts ends count from to ≡ Fresh count
+  pub checked_off : checks ≡ false → checked_of tag checks starts ends count from to ≡ Ok count
   unfolding checked_of
   checked_off h = rw h
 
   module _ (on : checks ≡ true) where
-    pub checked_by_lem : (x : Earlier) → x ≡ earlier_of tag starts ends count from to → checked_of tag checks starts ends count from to ≡ checked_by count x
+    pub checked_by_lem : (x : Option ℕ) → x ≡ earlier_of tag starts ends count from to → checked_of tag checks starts ends count from to ≡ checked_by count x
     unfolding checked_of
     checked_by_lem x e = rw (on, e)
 
-    pub checked_same : (p : ℕ) → earlier_of tag starts ends count from to ≡ At p → checked_of tag checks starts ends count from to ≡ Same p
+    pub checked_same : (p : ℕ) → earlier_of tag starts ends count from to ≡ Some p → checked_of tag checks starts ends count from to ≡ Err (Same p)
     unfolding checked_of checked_by
     checked_same p e = rw (on, e)
 
-    pub checked_full : earlier_of tag starts ends count from to ≡ Nothing → capacity ≤ count → checked_of tag checks starts ends count from to ≡ Full
+    pub checked_full : earlier_of tag starts ends count from to ≡ None → capacity ≤ count → checked_of tag checks starts ends count from to ≡ Err Full
     unfolding checked_of checked_by
     checked_full e h = rw (on, e, le-ltb count capacity h)
 
-    pub checked_fresh : earlier_of tag starts ends count from to ≡ Nothing → count < capacity → checked_of tag checks starts ends count from to ≡ Fresh (count + 1)
+    pub checked_fresh : earlier_of tag starts ends count from to ≡ None → count < capacity → checked_of tag checks starts ends count from to ≡ Ok (count + 1)
     unfolding checked_of checked_by
     checked_fresh e h = rw (on, e, lt-ltb count capacity h)
 
 module _ (checks : Bool) (n : ℕ) (t : List ℕ) (count x : ℕ) where
-  pub written_on : checks ≡ true → written_by checks (Fresh n) t count x ≡ set t count x
+  pub written_on : checks ≡ true → written_by checks (Ok n) t count x ≡ set t count x
   unfolding written_by
   written_on h = rw h
 
-  pub written_off : checks ≡ false → written_by checks (Fresh n) t count x ≡ t
+  pub written_off : checks ≡ false → written_by checks (Ok n) t count x ≡ t
   unfolding written_by
   written_off h = rw h
 
 -- no verdict makes a table longer or shorter
-pub written_length : (checks : Bool) (v : Checked) (t : List ℕ) (count x : ℕ) → length (written_by checks v t count x) ≡ length t
+pub written_length : (checks : Bool) (v : Result ℕ KeyRefusal) (t : List ℕ) (count x : ℕ) → length (written_by checks v t count x) ≡ length t
 unfolding written_by
-written_length true (Fresh n) t count x = length-set t count x
-written_length false (Fresh n) t count x = refl
-written_length checks (Same p) t count x = refl
-written_length checks Full t count x = refl
+written_length true (Ok n) t count x = length-set t count x
+written_length false (Ok n) t count x = refl
+written_length checks (Err (Same p)) t count x = refl
+written_length checks (Err Full) t count x = refl
 
-pub room_stays : (checks : Bool) (v : Checked) (starts ends hashes : List ℕ) (count from to hash : ℕ) → KeyRoom checks starts ends hashes → KeyRoom checks (written_by checks v starts count from) (written_by checks v ends count to) (written_by checks v hashes count hash)
+pub room_stays : (checks : Bool) (v : Result ℕ KeyRefusal) (starts ends hashes : List ℕ) (count from to hash : ℕ) → KeyRoom checks starts ends hashes → KeyRoom checks (written_by checks v starts count from) (written_by checks v ends count to) (written_by checks v hashes count hash)
 room_stays checks v starts ends hashes count from to hash r =
     record {
       room = λ on. (
@@ -403,7 +402,7 @@ module _ (starts ends hashes : List ℕ) (count : ℕ) (tag : List ℕ) (from to
             get_or-set_other hashes count k hash 0 n ∙ i.kept k b ∙ ap hash_of (sym (name_old k b))
 
 -- the table that a verdict leaves, with its count
-abbrev pub KeysAfter : Bool → Checked → (starts ends hashes : List ℕ) → (count from to : ℕ) → List ℕ → Type 0
+abbrev pub KeysAfter : Bool → Result ℕ KeyRefusal → (starts ends hashes : List ℕ) → (count from to : ℕ) → List ℕ → Type 0
 KeysAfter checks v starts ends hashes count from to tag =
     KeysIn (written_by checks v starts count from) (written_by checks v ends count to) (written_by checks v hashes count (hash_of (part tag from to))) (count_by v count) tag
 
@@ -415,24 +414,24 @@ module _ (tag starts ends hashes : List ℕ) (count from to : ℕ) (i : KeysIn s
   unfolding checked_of checked_by written_by count_by
   keys_held false lt le = λ h. i
   keys_held true lt le = by (earlier_of tag starts ends count from to) (ltb count capacity) refl where
-    by : (e : Earlier) (t : Bool) → ltb count capacity ≡ t → holds starts ends hashes (count_by (checked_by count e) count) ≡ true → KeysAfter true (checked_by count e) starts ends hashes count from to tag
-    by (At p) t h = λ f. i
-    by Nothing true h =
+    by : (e : Option ℕ) (t : Bool) → ltb count capacity ≡ t → holds starts ends hashes (count_by (checked_by count e) count) ≡ true → KeysAfter true (checked_by count e) starts ends hashes count from to tag
+    by (Some p) t h = λ f. i
+    by None true h =
         rw h (λ f. keys_more starts ends hashes count tag from to i (ltb-true count capacity h) (holds_facts starts ends hashes (count + 1) f) lt le)
-    by Nothing false h = rw h (λ f. i)
+    by None false h = rw h (λ f. i)
 
   -- With room for as many keys as may ever be recorded they always do.
   pub room_holds : (checks : Bool) → KeyRoom checks starts ends hashes → holds starts ends hashes (count_by (checked_of tag checks starts ends count from to) count) ≡ true
   unfolding checked_of checked_by count_by
   room_holds false r = facts_hold starts ends hashes count i.placed
   room_holds true r = by (earlier_of tag starts ends count from to) (ltb count capacity) refl where
-    by : (e : Earlier) (t : Bool) → ltb count capacity ≡ t → holds starts ends hashes (count_by (checked_by count e) count) ≡ true
-    by (At p) t h = facts_hold starts ends hashes count i.placed
-    by Nothing true h =
+    by : (e : Option ℕ) (t : Bool) → ltb count capacity ≡ t → holds starts ends hashes (count_by (checked_by count e) count) ≡ true
+    by (Some p) t h = facts_hold starts ends hashes count i.placed
+    by None true h =
         let few = ltb-true count capacity h in
         let places = r.room refl in
         rw h (facts_hold starts ends hashes (count + 1) (omega arith, omega arith, omega arith))
-    by Nothing false h = rw h (facts_hold starts ends hashes count i.placed)
+    by None false h = rw h (facts_hold starts ends hashes count i.placed)
 
 -- when lists have the place of the next key: while checks are off, and where none is full
 module _ (checks : Bool) (starts ends hashes : List ℕ) (count : ℕ) where
@@ -458,15 +457,15 @@ module _ (checks : Bool) (starts ends hashes : List ℕ) (count : ℕ) where
       rw (on, le-leb (count + 1) (length starts) (omega arith), le-leb (count + 1) (length ends) (omega arith), lt-leb (count + 1) (length hashes) (omega arith))
 
 -- A new key has its place exactly if the lists hold as many keys as there are with it.
-pub fresh_holds : (tag : List ℕ) (checks : Bool) (starts ends hashes : List ℕ) (count from to n : ℕ) → KeysIn starts ends hashes count tag → checked_of tag checks starts ends count from to ≡ Fresh n → holds starts ends hashes n ≡ has_place checks starts ends hashes count
+pub fresh_holds : (tag : List ℕ) (checks : Bool) (starts ends hashes : List ℕ) (count from to n : ℕ) → KeysIn starts ends hashes count tag → checked_of tag checks starts ends count from to ≡ Ok n → holds starts ends hashes n ≡ has_place checks starts ends hashes count
 unfolding checked_of checked_by has_place
 fresh_holds tag false starts ends hashes count from to n i = λ e.
     let m : count ≡ n = cc in
     rw (sym m) (facts_hold starts ends hashes count i.placed)
 fresh_holds tag true starts ends hashes count from to n i = by (earlier_of tag starts ends count from to) (ltb count capacity) refl where
-  by : (x : Earlier) (t : Bool) → ltb count capacity ≡ t → checked_by count x ≡ Fresh n → holds starts ends hashes n ≡ holds starts ends hashes (count + 1)
-  by (At p) t h = λ e. absurd (let z : ◌≡◌ {A = ℕ} 0 1 = cc in omega arith)
-  by Nothing true h = rw h (λ e.
+  by : (x : Option ℕ) (t : Bool) → ltb count capacity ≡ t → checked_by count x ≡ Ok n → holds starts ends hashes n ≡ holds starts ends hashes (count + 1)
+  by (Some p) t h = λ e. absurd (let z : ◌≡◌ {A = ℕ} 0 1 = cc in omega arith)
+  by None true h = rw h (λ e.
       let m : count + 1 ≡ n = cc in
       rw (sym m) refl)
-  by Nothing false h = rw h (λ e. absurd (let z : ◌≡◌ {A = ℕ} 0 1 = cc in omega arith))
+  by None false h = rw h (λ e. absurd (let z : ◌≡◌ {A = ℕ} 0 1 = cc in omega arith))

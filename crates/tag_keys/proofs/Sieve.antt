@@ -13,13 +13,11 @@ use lib.Bits.{bit_or, or_shr, or_mod}
 use lib.Pow.{pow_pos, pow-lt}
 use lib.Dec.{eqb, ltb}
 use borrow.Author.Tests.{eq-eqb, eqb-true, eqb-false}
+use Rattle.std.proofs.Common.{Option, Some, None, Ok}
 use Rattle.scan.specs.First.{pick}
 use Rattle.scan.specs.Bytes.{part}
-use Rattle.tag_keys.specs.declared.Earlier.{Earlier}
-use Rattle.tag_keys.specs.declared.Earlier.TheVariants.{At, Nothing}
 use Rattle.tag_keys.specs.Hash.{hash_of}
 use Rattle.tag_keys.specs.Sieve.{sieve_words, sieve_word, in_sieve, sieved, empty_sieve, sieve_of, SieveOf, sieve_left, sieved_in}
-use Rattle.tag_keys.specs.declared.Checked.TheVariants.{Fresh}
 use Rattle.tag_keys.specs.Keys.{capacity, KeysIn, holds, has_place, earlier_of, checked_by, checked_of, recorded_in}
 use Rattle.tag_keys.proofs.Laws.{earlier_none, holds_facts}
 
@@ -142,7 +140,7 @@ sieve_more hashes n x lt =
     ∙ sieve_next (set hashes n x) n (sieve_of (set hashes n x) n) (sieved (sieve_of (set hashes n x) n) (get_or (set hashes n x) n 0)) refl refl
 
 -- A hash that is not in the sieve of the kept ones is that of no recorded key.
-pub sieve_none : (tag starts ends hashes : List ℕ) (count from to : ℕ) → KeysIn starts ends hashes count tag → (sieve : List ℕ) (hash : ℕ) → sieve ≡ sieve_of hashes count → hash ≡ hash_of (part tag from to) → in_sieve sieve hash ≡ false → Nothing ≡ earlier_of tag starts ends count from to
+pub sieve_none : (tag starts ends hashes : List ℕ) (count from to : ℕ) → KeysIn starts ends hashes count tag → (sieve : List ℕ) (hash : ℕ) → sieve ≡ sieve_of hashes count → hash ≡ hash_of (part tag from to) → in_sieve sieve hash ≡ false → None ≡ earlier_of tag starts ends count from to
 sieve_none tag starts ends hashes count from to keys sieve hash e f out =
     sym (earlier_none tag starts ends count from to
     (λ k lt same.
@@ -162,15 +160,15 @@ module _ (checks : Bool) (sieve hashes : List ℕ) (count : ℕ) (before : Sieve
   pub sieve_alone : (sieve' hashes' : List ℕ) → sieve' ≡ sieve → hashes' ≡ hashes → sieve' ≡ sieve_left checks sieve hashes' count
   sieve_alone sieve' hashes' e f = rw (e, f) sieve_stays
 
-  pub sieve_fresh : (tag starts ends : List ℕ) (from to n hash : ℕ) (hashes' sieve' : List ℕ) → checked_of tag checks starts ends count from to ≡ Fresh n → true ≡ has_place checks starts ends hashes count → hashes' ≡ recorded_in checks hashes count hash → sieve' ≡ sieved_in checks sieve hash → sieve' ≡ sieve_left checks sieve hashes' n
+  pub sieve_fresh : (tag starts ends : List ℕ) (from to n hash : ℕ) (hashes' sieve' : List ℕ) → checked_of tag checks starts ends count from to ≡ Ok n → true ≡ has_place checks starts ends hashes count → hashes' ≡ recorded_in checks hashes count hash → sieve' ≡ sieved_in checks sieve hash → sieve' ≡ sieve_left checks sieve hashes' n
   unfolding checked_of checked_by has_place
   sieve_fresh tag starts ends from to n hash hashes' sieve' = by checks refl where
-    more : (x : Earlier) (t : Bool) → ltb count capacity ≡ t → checked_by count x ≡ Fresh n → n ≡ count + 1
-    more (At p) t h = λ e. absurd (let z : ◌≡◌ {A = ℕ} 0 1 = cc in omega arith)
-    more Nothing true h = rw h (λ e. sym cc)
-    more Nothing false h = rw h (λ e. absurd (let z : ◌≡◌ {A = ℕ} 0 1 = cc in omega arith))
+    more : (x : Option ℕ) (t : Bool) → ltb count capacity ≡ t → checked_by count x ≡ Ok n → n ≡ count + 1
+    more (Some p) t h = λ e. absurd (let z : ◌≡◌ {A = ℕ} 0 1 = cc in omega arith)
+    more None true h = rw h (λ e. sym cc)
+    more None false h = rw h (λ e. absurd (let z : ◌≡◌ {A = ℕ} 0 1 = cc in omega arith))
 
-    by : (t : Bool) → checks ≡ t → pick t (checked_by count (earlier_of tag starts ends count from to)) (Fresh count) ≡ Fresh n → true ≡ pick t (holds starts ends hashes (count + 1)) true → hashes' ≡ recorded_in t hashes count hash → sieve' ≡ sieved_in t sieve hash → sieve' ≡ sieve_left t sieve hashes' n
+    by : (t : Bool) → checks ≡ t → pick t (checked_by count (earlier_of tag starts ends count from to)) (Ok count) ≡ Ok n → true ≡ pick t (holds starts ends hashes (count + 1)) true → hashes' ≡ recorded_in t hashes count hash → sieve' ≡ sieved_in t sieve hash → sieve' ≡ sieve_left t sieve hashes' n
     by true on v held h g =
         let places = holds_facts starts ends hashes (count + 1) (sym held) in
         rw (g, before.all on, h, more (earlier_of tag starts ends count from to) (ltb count capacity) refl v) (sieve_more hashes count hash (omega arith))

@@ -1,13 +1,11 @@
 -- The recorded keys. A table of them is three lists, the keys' starts, their ends and their hashes in the order in which they
 -- were recorded, and a count: places at or after the count are unused.
-use Rattle.std.specs.Prelude.{ℕ, ◌+◌, ◌≤◌, ◌<◌, ◌≡◌, Bool, true, not, ◌&&◌, List, [], ◌∷◌, length, get_or, set, eqb, ltb, leb}
+use Rattle.std.specs.Prelude.{ℕ, ◌+◌, ◌≤◌, ◌<◌, ◌≡◌, Bool, true, not, ◌&&◌, List, [], ◌∷◌, length, get_or, set, eqb, ltb, leb, Option, Some, None, Result, Ok, Err}
 use Rattle.scan.specs.First.{first_to, pick}
 use Rattle.scan.specs.Bytes.{part, same_bytes}
 use Rattle.tag_keys.specs.Hash.{hash_of}
-use Rattle.tag_keys.specs.declared.Earlier.{Earlier}
-use Rattle.tag_keys.specs.declared.Earlier.TheVariants.{At, Nothing}
-use Rattle.tag_keys.specs.declared.Checked.{Checked}
-use Rattle.tag_keys.specs.declared.Checked.TheVariants.{Fresh, Same, Full}
+use Rattle.tag_keys.specs.declared.KeyRefusal.{KeyRefusal}
+use Rattle.tag_keys.specs.declared.KeyRefusal.TheVariants.{Same, Full}
 
 -- Capacities: 1,024 recorded keys.
 abbrev pub capacity : ℕ
@@ -78,28 +76,28 @@ unfoldable pub oldest_of : List ℕ → List ℕ → List ℕ → ℕ → ℕ �
 oldest_of tag starts ends count from to = first_to (same_key tag starts ends from to) 0 count
 
 -- A key is compared with every recorded key, oldest first: the start of the first that has its bytes, if one has.
-unfoldable pub earlier_of : List ℕ → List ℕ → List ℕ → ℕ → ℕ → ℕ → Earlier
+unfoldable pub earlier_of : List ℕ → List ℕ → List ℕ → ℕ → ℕ → ℕ → Option ℕ
 earlier_of tag starts ends count from to =
     pick (ltb (oldest_of tag starts ends count from to) count)
-    (At (get_or starts (oldest_of tag starts ends count from to) 0))
-    Nothing
+    (Some (get_or starts (oldest_of tag starts ends count from to) 0))
+    None
 
 -- A key equal to an earlier one is refusal 5, with the earlier key's start. Refusal 6 comes exactly if it equals none
 -- and as many keys as the capacity are recorded already. Any other is recorded, so that there is one more.
-unfoldable pub checked_by : ℕ → Earlier → Checked
-checked_by count (At p) = Same p
-checked_by count Nothing = pick (ltb count capacity) (Fresh (count + 1)) Full
+unfoldable pub checked_by : ℕ → Option ℕ → Result ℕ KeyRefusal
+checked_by count (Some p) = Err (Same p)
+checked_by count None = pick (ltb count capacity) (Ok (count + 1)) (Err Full)
 
 -- "Recorded" applies while checks are on: without them every key is fresh, and there are as many as before.
-unfoldable pub checked_of : List ℕ → Bool → List ℕ → List ℕ → ℕ → ℕ → ℕ → Checked
-checked_of tag checks starts ends count from to = pick checks (checked_by count (earlier_of tag starts ends count from to)) (Fresh count)
+unfoldable pub checked_of : List ℕ → Bool → List ℕ → List ℕ → ℕ → ℕ → ℕ → Result ℕ KeyRefusal
+checked_of tag checks starts ends count from to = pick checks (checked_by count (earlier_of tag starts ends count from to)) (Ok count)
 
 -- The verdict by numbers: 5, with the start of the earlier key, and 6 are document 01's. A new key has none there, and is 0 with
 -- how many keys are recorded then.
-unfoldable pub checked_numbers : Checked → List ℕ
-checked_numbers (Fresh n) = 0 ∷ n ∷ []
-checked_numbers (Same p) = 5 ∷ p ∷ []
-checked_numbers Full = 6 ∷ []
+unfoldable pub checked_numbers : Result ℕ KeyRefusal → List ℕ
+checked_numbers (Ok n) = 0 ∷ n ∷ []
+checked_numbers (Err (Same p)) = 5 ∷ p ∷ []
+checked_numbers (Err Full) = 6 ∷ []
 
 -- One of the lists after a new key is recorded, x being the key's own number in it: the place at index count is written and
 -- no other, so that unused key places keep their content. No key is recorded while checks are off.
@@ -107,13 +105,13 @@ abbrev pub recorded_in : Bool → List ℕ → ℕ → ℕ → List ℕ
 recorded_in checks t count x = pick checks (set t count x) t
 
 -- One of the lists after a verdict: refusals 5 and 6 write nothing.
-unfoldable pub written_by : Bool → Checked → List ℕ → ℕ → ℕ → List ℕ
-written_by checks (Fresh n) t count x = recorded_in checks t count x
-written_by checks (Same p) t count x = t
-written_by checks Full t count x = t
+unfoldable pub written_by : Bool → Result ℕ KeyRefusal → List ℕ → ℕ → ℕ → List ℕ
+written_by checks (Ok n) t count x = recorded_in checks t count x
+written_by checks (Err (Same p)) t count x = t
+written_by checks (Err Full) t count x = t
 
 -- how many keys are recorded after a verdict
-unfoldable pub count_by : Checked → ℕ → ℕ
-count_by (Fresh n) count = n
-count_by (Same p) count = count
-count_by Full count = count
+unfoldable pub count_by : Result ℕ KeyRefusal → ℕ → ℕ
+count_by (Ok n) count = n
+count_by (Err (Same p)) count = count
+count_by (Err Full) count = count

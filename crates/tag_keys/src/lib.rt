@@ -9,7 +9,7 @@
 ghost use Rattle.std.specs.Prelude.{◌≡◌, false, ℕ, ◌+◌, ◌≤◌, ◌<◌, length};
 ghost use Rattle.scan.specs.First.{first_to, pick};
 ghost use Rattle.scan.specs.Bytes.{part};
-ghost use Rattle.tag_keys.specs.Hash.{times_prime, hash_of};
+ghost use Rattle.tag_keys.specs.Hash.{hash_of};
 ghost use Rattle.tag_keys.specs.Sieve.{sieve_words, sieve_word, in_sieve, empty_sieve, sieved, sieve_of, sieved_in, SieveOf};
 ghost use Rattle.tag_keys.specs.Keys.{KeysIn, holds, has_place, table_good, block, hash_is, hash_for, earlier_of, checked_by, checked_of, checked_numbers, recorded_in};
 
@@ -30,45 +30,19 @@ pub struct Hashed {
     pub hash: u32,
 }
 
-// What a search of the recorded keys finds.
+// Why a key that is due to be recorded is refused. Nothing is written then.
 #[derive(Clone, Copy)]
-pub enum Earlier {
-    // the start of the oldest recorded key with the same bytes
-    At(usize),
-    Nothing,
-}
-
-// The verdict on a key that is due to be recorded.
-#[derive(Clone, Copy)]
-pub enum Checked {
-    // It is new. This many keys are recorded now: one more than before, or as many while checks are off.
-    Fresh(usize),
-    // `a='1' a="2"`: it has the bytes of an earlier key, which starts here. Refusal 5; nothing is written.
+pub enum KeyRefusal {
+    // `a='1' a="2"`: it has the bytes of an earlier key, which starts here. Refusal 5.
     Same(usize),
-    // It is new, and the tables hold `CAPACITY` keys already. Refusal 6; nothing is written.
+    // It is new, and the tables hold `CAPACITY` keys already. Refusal 6.
     Full,
 }
 
-// Of FNV-1a with 32 bits: the number that it starts at, its factor, and how many numbers there are below what is dropped.
+// Of FNV-1a with 32 bits: the number that it starts at, and its factor.
 const BASIS: u32 = 2166136261;
 
-const PRIME: u64 = 16777619;
-
-const RANGE: u64 = 4294967296;
-
-// The factor times a number, with everything above 32 bits dropped: a wrapping product on `u32`.
-#[tactic(auto, unfolding(crate::specs::Hash::times_prime))]
-fn times_prime(x: u32) -> u32
-    ensures { result ≡ times_prime x }
-{
-    ((x as u64) * PRIME % RANGE) as u32
-}
-
-fn wide(b: u8) -> u32
-    ensures { result ≡ b }
-{
-    b as u32
-}
+const PRIME: u32 = 16777619;
 
 // The hash of the bytes from `from` up to `to`: FNV-1a.
 fn hash_of(tag: &[u8], from: usize, to: usize) -> u32
@@ -76,10 +50,8 @@ fn hash_of(tag: &[u8], from: usize, to: usize) -> u32
     ensures { result ≡ hash_of (part tag.now from to) }
 {
     let mut hash = BASIS;
-    let mut i = from;
-    while i < to {
-        hash = times_prime(wide(tag[i]) ^ hash);
-        i += 1;
+    for b in &tag[from..to] {
+        hash = (u32::from(*b) ^ hash).wrapping_mul(PRIME);
     }
     hash
 }
@@ -89,10 +61,7 @@ pub fn hash_for(tag: &[u8], checks: bool, from: usize, to: usize) -> u32
     requires { (from ≤ to) × (to ≤ length tag.now) }
     ensures { result ≡ hash_for tag.now checks from to }
 {
-    if !checks {
-        return 0;
-    }
-    hash_of(tag, from, to)
+    if checks { hash_of(tag, from, to) } else { 0 }
 }
 
 // Whether a hash is among the `BLOCK` kept ones from index `i` on. All are asked, so that the machine asks several at once; only
@@ -102,12 +71,10 @@ fn block_has<'a>(hashes: &'a [u32], i: usize, hash: u32) -> bool
     ensures { result ≡ false → (k : ℕ) → i ≤ k → k < i + block → hash_is hashes.now hash k ≡ false }
 {
     let mut any = false;
-    let mut k = 0;
-    while k < BLOCK {
-        if hashes[i + k] == hash {
+    for kept in &hashes[i..i + BLOCK] {
+        if *kept == hash {
             any = true;
         }
-        k += 1;
     }
     any
 }
@@ -118,19 +85,19 @@ fn kept_from<'a>(hashes: &'a [u32], count: usize, k: usize, hash: u32) -> usize
     ensures { result ≡ first_to (hash_is hashes.now hash) k count }
 {
     let mut i = k;
+    // No `for` over blocks: the loop below begins where this one ends, so that `i` would be counted by hand all the same.
     'skip: while count - i >= BLOCK {
         if block_has(hashes, i, hash) {
             break 'skip;
         }
         i += BLOCK;
     }
-    while i < count {
-        if hashes[i] == hash {
-            return i;
+    for j in i..count {
+        if hashes[j] == hash {
+            return j;
         }
-        i += 1;
     }
-    i
+    count
 }
 
 // Whether a hash is in the sieve. Where it is not, no recorded key has that hash, and there is nothing to compare with.
@@ -155,7 +122,7 @@ fn add_to_sieve<'a>(sieve: &'a mut [u64], hash: u32)
     ensures { sieve.new ≡ sieved sieve.old hash }
 {
     let at = sieve_word(hash);
-    sieve[at] = sieve[at] | (1 << (hash % 64));
+    sieve[at] |= 1 << (hash % 64);
 }
 
 // Sets the bits of all kept hashes in an empty sieve.
@@ -164,16 +131,14 @@ pub fn sieve_kept<'a>(sieve: &mut [u64], hashes: &'a [u32], count: usize)
     requires count_in_bounds { count ≤ length hashes.now }
     ensures { sieve.new ≡ sieve_of hashes.now count }
 {
-    let mut i = 0;
-    while i < count {
-        add_to_sieve(sieve, hashes[i]);
-        i += 1;
+    for hash in &hashes[..count] {
+        add_to_sieve(sieve, *hash);
     }
 }
 
-// The oldest recorded key with the bytes from `from` up to `to`, whose hash is `hash`. Those with another hash are passed over;
-// then the lengths are compared, and the bytes from the last to the first, since the names that stand in one tag differ most
-// often at their ends.
+// Where the oldest recorded key starts that has the bytes from `from` up to `to`, whose hash is `hash`. Those with another hash
+// are passed over; then the lengths are compared, and the bytes from the last to the first, since the names that stand in one tag
+// differ most often at their ends.
 //
 //     x:id="1" x:ref="2" x:id="3"
 //     |        |         |   ^
@@ -187,19 +152,19 @@ fn earlier_key<'a>(
     from: usize,
     to: usize,
     hash: u32,
-) -> Earlier
+) -> Option<usize>
     requires keys_in { KeysIn starts.now ends.now hashes.now count tag.now }
     requires from_lt_to { (from < to) × (to ≤ length tag.now) }
     requires hash_value { hash ≡ hash_of (part tag.now from to) }
     ensures { result ≡ earlier_of tag.now starts.now ends.now count from to }
 {
     let len = to - from;
-    let mut found = Earlier::Nothing;
     let mut k = 0;
+    // No `for`: `k` goes on behind the key that was looked at, and no range gives those places.
     'keys: while k < count {
         let i = kept_from(hashes, count, k, hash);
         if i >= count {
-            break 'keys;
+            return None;
         }
         k = i + 1;
         let start = starts[i];
@@ -207,17 +172,14 @@ fn earlier_key<'a>(
         if end - start != len {
             continue 'keys;
         }
-        let mut j = len;
-        while j > 0 {
-            j -= 1;
+        for j in (0..len).rev() {
             if tag[start + j] != tag[from + j] {
                 continue 'keys;
             }
         }
-        found = Earlier::At(start);
-        break 'keys;
+        return Some(start);
     }
-    found
+    None
 }
 
 // The same for a key with its hash, by the sieve first.
@@ -229,7 +191,7 @@ fn earlier_sifted<'a>(
     sieve: &'a [u64],
     count: usize,
     key: Hashed,
-) -> Earlier
+) -> Option<usize>
     requires keys_in { KeysIn starts.now ends.now hashes.now count tag.now }
     requires start_lt_end { (key.start < key.end) × (key.end ≤ length tag.now) }
     requires hash_value { key.hash ≡ hash_of (part tag.now key.start key.end) }
@@ -237,7 +199,7 @@ fn earlier_sifted<'a>(
     ensures { result ≡ earlier_of tag.now starts.now ends.now count key.start key.end }
 {
     if !in_sieve(sieve, key.hash) {
-        return Earlier::Nothing;
+        return None;
     }
     earlier_key(
         tag, starts, ends, hashes, count, key.start, key.end, key.hash,
@@ -254,26 +216,15 @@ pub fn keys_good<'a>(
 ) -> bool
     ensures { result ≡ table_good tag.now starts.now ends.now hashes.now count }
 {
-    if count > CAPACITY {
+    if count > CAPACITY || !holds(starts, ends, hashes, count) {
         return false;
     }
-    if !holds(starts, ends, hashes, count) {
-        return false;
-    }
-    let mut i = 0;
-    while i < count {
+    for i in 0..count {
         let start = starts[i];
         let end = ends[i];
-        if start >= end {
+        if start >= end || end > tag.len() || hash_of(tag, start, end) != hashes[i] {
             return false;
         }
-        if end > tag.len() {
-            return false;
-        }
-        if hash_of(tag, start, end) != hashes[i] {
-            return false;
-        }
-        i += 1;
     }
     true
 }
@@ -282,33 +233,24 @@ pub fn keys_good<'a>(
 pub fn holds<'a>(starts: &'a [usize], ends: &'a [usize], hashes: &'a [u32], count: usize) -> bool
     ensures { result ≡ holds starts.now ends.now hashes.now count }
 {
-    if count > starts.len() {
-        return false;
-    }
-    if count > ends.len() {
-        return false;
-    }
-    count <= hashes.len()
+    count <= starts.len() && count <= ends.len() && count <= hashes.len()
 }
 
-// The verdict on a key by what a search found.
+// The verdict on a key by what a search found: how many keys are recorded after it, or why it is refused.
 #[tactic(auto, unfolding(crate::specs::Keys::checked_by))]
-fn verdict(count: usize, earlier: Earlier) -> Checked
+fn verdict(count: usize, earlier: Option<usize>) -> Result<usize, KeyRefusal>
     ensures { result ≡ checked_by count earlier }
 {
     match earlier {
-        Earlier::At(p) => Checked::Same(p),
-        Earlier::Nothing => {
-            if count >= CAPACITY {
-                return Checked::Full;
-            }
-            Checked::Fresh(count + 1)
-        }
+        Some(p) => Err(KeyRefusal::Same(p)),
+        None if count >= CAPACITY => Err(KeyRefusal::Full),
+        None => Ok(count + 1),
     }
 }
 
 // The verdict on a key: `IterState::check_for_duplicates`, src/events/attributes.rs, but for the recording, which is
-// `record_key`. While checks are on the sieve is that of the kept hashes.
+// `record_key`. A key that is new gives how many are recorded with it: one more than before, or as many while checks are off.
+// While checks are on the sieve is that of the kept hashes.
 pub fn check_for_duplicates<'a>(
     tag: &[u8],
     starts: &'a [usize],
@@ -318,7 +260,7 @@ pub fn check_for_duplicates<'a>(
     checks: bool,
     count: usize,
     key: Hashed,
-) -> Checked
+) -> Result<usize, KeyRefusal>
     requires keys_in { KeysIn starts.now ends.now hashes.now count tag.now }
     requires start_lt_end { (key.start < key.end) × (key.end ≤ length tag.now) }
     requires hash_value { key.hash ≡ hash_for tag.now checks key.start key.end }
@@ -326,7 +268,7 @@ pub fn check_for_duplicates<'a>(
     ensures { checked_numbers result ≡ checked_numbers (checked_of tag.now checks starts.now ends.now count key.start key.end) }
 {
     if !checks {
-        return Checked::Fresh(count);
+        return Ok(count);
     }
     verdict(
         count,
@@ -344,14 +286,14 @@ pub fn check_unsifted<'a>(
     checks: bool,
     count: usize,
     key: Hashed,
-) -> Checked
+) -> Result<usize, KeyRefusal>
     requires keys_in { KeysIn starts.now ends.now hashes.now count tag.now }
     requires start_lt_end { (key.start < key.end) × (key.end ≤ length tag.now) }
     requires hash_value { key.hash ≡ hash_for tag.now checks key.start key.end }
     ensures { checked_numbers result ≡ checked_numbers (checked_of tag.now checks starts.now ends.now count key.start key.end) }
 {
     if !checks {
-        return Checked::Fresh(count);
+        return Ok(count);
     }
     verdict(
         count,
@@ -382,13 +324,7 @@ pub fn record_key<'a>(
     if !checks {
         return true;
     }
-    if count >= starts.len() {
-        return false;
-    }
-    if count >= ends.len() {
-        return false;
-    }
-    if count >= hashes.len() {
+    if count >= starts.len() || count >= ends.len() || count >= hashes.len() {
         return false;
     }
     starts[count] = key.start;

@@ -10,11 +10,12 @@ ghost use Rattle.tag_keys.specs.Keys.{KeysIn};
 ghost use Rattle.tag_step.specs.Next.{keys_lent, check_of};
 ghost use Rattle.tag_step.specs.Look.{look_value, look_by, look_of};
 
-use tag_keys::{Checked, Hashed};
-use tag_step::{KeyRead, Span, Standing, Start};
+use tag_keys::{Hashed, KeyRefusal};
+use tag_step::{KeyRead, Span, Standing};
 
 // The last byte that the value after the `=` at `eq` has to know: its closing quote, the whitespace after it, or the byte that
 // is no quote; the length, or past it, where that is not there.
+#[tactic(auto, unfolding(tag_step::specs::Look::look_value, tag_step::specs::Look::look_from, tag_step::specs::Look::look_in))]
 fn look_value(tag: &[u8], html: bool, eq: usize) -> usize
     requires { eq < length tag.now }
     ensures { result ≡ look_value tag.now html eq }
@@ -42,7 +43,7 @@ pub fn check_in<'a>(
     checks: bool,
     count: usize,
     key: Span,
-) -> Checked
+) -> Result<usize, KeyRefusal>
     requires keys_in { KeysIn starts.now ends.now hashes.now count tag.now }
     requires start_lt_end { (key.start < key.end) × (key.end ≤ length tag.now) }
     ensures { result ≡ check_of tag.now checks (keys_lent starts.now ends.now hashes.now count) key }
@@ -51,21 +52,20 @@ pub fn check_in<'a>(
     let hashed = Hashed {
         start: key.start,
         end: key.end,
-        hash: hash,
+        hash,
     };
     tag_keys::check_unsifted(tag, starts, ends, hashes, checks, count, hashed)
 }
 
 // By the verdict on the key whose `=` stands at `eq`: the value of a key that is refused is not looked at.
 #[tactic(auto, unfolding(tag_step::specs::Look::look_by))]
-fn look_by(tag: &[u8], html: bool, eq: usize, verdict: Checked) -> usize
+fn look_by(tag: &[u8], html: bool, eq: usize, verdict: Result<usize, KeyRefusal>) -> usize
     requires { eq < length tag.now }
     ensures { result ≡ look_by tag.now html eq verdict }
 {
     match verdict {
-        Checked::Fresh(_) => look_value(tag, html, eq),
-        Checked::Same(_) => eq,
-        Checked::Full => eq,
+        Ok(_) => look_value(tag, html, eq),
+        Err(_) => eq,
     }
 }
 
@@ -82,13 +82,13 @@ pub fn look_in<'a>(
     ensures { result ≡ look_of tag.now at.html at.checks (keys_lent starts.now ends.now hashes.now at.count) at.place }
 {
     let place = at.place;
-    let Start::From(from) = tag_step::recover(tag, place) else {
+    let Some(from) = tag_step::recover(tag, place) else {
         return tag.len();
     };
     match tag_step::read_key(tag, from) {
-        KeyRead::NoKey => tag.len(),
-        KeyRead::Bare(_, after) => after,
-        KeyRead::Valued(key, eq) => {
+        None => tag.len(),
+        Some(KeyRead::Bare(_, after)) => after,
+        Some(KeyRead::Valued(key, eq)) => {
             let verdict = check_in(tag, starts, ends, hashes, at.checks, at.count, key);
             look_by(tag, at.html, eq, verdict)
         }

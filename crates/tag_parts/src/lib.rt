@@ -6,26 +6,16 @@
 ghost use Rattle.std.specs.Prelude.{◌≡◌};
 ghost use Rattle.tag_parts.specs.Parts.{key_part, value_part, truth_of, truth_number};
 
-use tag_step::Answer;
+use tag_step::{Answer, Attr};
 
-// What a value says: `Attribute::as_bool`.
-#[derive(Clone, Copy)]
-pub enum Truth {
-    Yes,
-    No,
-    Neither,
-}
-
-impl Truth {
-    // As a number, for an exported function, which hands out no enum.
-    pub fn number(self) -> usize
-        ensures { result ≡ truth_number self }
-    {
-        match self {
-            Truth::No => 0,
-            Truth::Yes => 1,
-            Truth::Neither => 2,
-        }
+// What a value says as a number, for an exported function, which hands out no `Option`: 0 a no, 1 a yes, 2 neither.
+pub fn truth_number(truth: Option<bool>) -> usize
+    ensures { result ≡ truth_number truth }
+{
+    match truth {
+        Some(false) => 0,
+        Some(true) => 1,
+        None => 2,
     }
 }
 
@@ -35,10 +25,10 @@ pub fn key_part(tag: &[u8], answer: Answer) -> &[u8]
     ensures { result.now ≡ key_part tag.now answer }
 {
     match answer {
-        Answer::DoubleQ(key, _) => scan::inside(tag, key.start, key.end),
-        Answer::SingleQ(key, _) => scan::inside(tag, key.start, key.end),
-        Answer::Unquoted(key, _) => scan::inside(tag, key.start, key.end),
-        Answer::Empty(key) => scan::inside(tag, key.start, key.end),
+        Some(Ok(Attr::DoubleQ(key, _) | Attr::SingleQ(key, _) | Attr::Unquoted(key, _))) => {
+            scan::inside(tag, key.start, key.end)
+        }
+        Some(Ok(Attr::Empty(key))) => scan::inside(tag, key.start, key.end),
         _ => &tag[..0],
     }
 }
@@ -49,28 +39,23 @@ pub fn value_part(tag: &[u8], answer: Answer) -> &[u8]
     ensures { result.now ≡ value_part tag.now answer }
 {
     match answer {
-        Answer::DoubleQ(_, value) => scan::inside(tag, value.start, value.end),
-        Answer::SingleQ(_, value) => scan::inside(tag, value.start, value.end),
-        Answer::Unquoted(_, value) => scan::inside(tag, value.start, value.end),
+        Some(Ok(Attr::DoubleQ(_, value) | Attr::SingleQ(_, value) | Attr::Unquoted(_, value))) => {
+            scan::inside(tag, value.start, value.end)
+        }
         _ => &tag[..0],
     }
 }
 
-// What a value says: `Attribute::as_bool`.
-pub fn as_bool(value: &[u8]) -> Truth
+// What a value says, and None where it says neither: `Attribute::as_bool`.
+#[tactic(auto, unfolding(crate::specs::Parts::truth_of, scan::specs::Bytes::bytes, scan::specs::Bytes::bytes_from))]
+pub fn as_bool(value: &[u8]) -> Option<bool>
     ensures { result ≡ truth_of value.now }
 {
-    if scan::same(value, b"1") {
-        return Truth::Yes;
+    if scan::same(value, b"1") || scan::same(value, b"true") {
+        return Some(true);
     }
-    if scan::same(value, b"true") {
-        return Truth::Yes;
+    if scan::same(value, b"0") || scan::same(value, b"false") {
+        return Some(false);
     }
-    if scan::same(value, b"0") {
-        return Truth::No;
-    }
-    if scan::same(value, b"false") {
-        return Truth::No;
-    }
-    Truth::Neither
+    None
 }

@@ -1,44 +1,28 @@
 -- One law for each way out of the scan.
 use Prim.Native.Nat.{ℕ, ◌+◌, ◌≤◌, ◌<◌}
-use mathlib.Core.Path.{◌≡◌, sym}
+use mathlib.Core.Path.{◌≡◌, refl, sym}
 use mathlib.Core.Bool.{Bool, true, false}
 use mathlib.Core.List.{List}
 use lib.ListN.{length, get_or}
-use borrow.Author.Tests.{lt-ltb, le-ltb, le-leb, lt-leb, eq-eqb, ne_eqb}
+use borrow.Author.Tests.{lt-ltb, le-ltb, le-leb, lt-leb}
+use Rattle.std.specs.Result.{is_err}
+use Rattle.std.proofs.Common.{Result, Ok, Err}
 use Rattle.scan.specs.First.{first_from}
 use Rattle.scan.specs.Bytes.{is_space, not_space, ends_key, is_byte}
-use Rattle.tag_keys.specs.declared.Checked.{Checked}
+use Rattle.tag_keys.specs.declared.KeyRefusal.{KeyRefusal}
 use Rattle.tag_keys.specs.Keys.{key_good}
 use Rattle.tag_step.specs.declared.Span.{Span}
-use Rattle.tag_step.specs.declared.Place.TheVariants.{Next}
 use Rattle.tag_step.specs.Read.{span, is_quote}
 use Rattle.tag_step.specs.Next.{Keys, check_of}
-use Rattle.tag_phase.specs.declared.Phase.TheVariants.{Begin, Due, InSkip, InSpace, InKey, AfterKey, BeforeValue, InDouble, InSingle, InUnquoted}
-use Rattle.tag_phase.specs.Phase.{unquoted_from, open_in, quoted_from, value_by, value_on, value_from, after_by, after_on, after_from, key_on, key_from, space_on, space_from, skip_on, skip_from, begin_at, is_refused, refused_of}
+use Rattle.tag_phase.specs.declared.Phase.TheVariants.{InSkip, InSpace, InKey, AfterKey, BeforeValue, InUnquoted}
+use Rattle.tag_phase.specs.Phase.{unquoted_from, open_in, quoted_from, value_by, value_on, value_from, after_on, after_from, key_on, key_from, space_on, space_from, skip_on, skip_from, is_refused, refused_of}
 
 module _ (s : List ℕ) (key : Span) (o e : ℕ) (here : e ≡ first_from is_space s o) where
-  pub unquoted_due : e < length s → Due ≡ unquoted_from s key o
-  unfolding unquoted_from
-  unquoted_due l = rw (sym here, lt-ltb e (length s) l)
-
   pub unquoted_waits : length s ≤ e → InUnquoted key ≡ unquoted_from s key o
   unfolding unquoted_from
   unquoted_waits l = rw (sym here, le-ltb e (length s) l)
 
-module _ (q : ℕ) (key : Span) where
-  pub open_double : q ≡ 34 → InDouble key ≡ open_in q key
-  unfolding open_in
-  open_double e = rw (eq-eqb q 34 e)
-
-  pub open_single : (q ≡ 34 → ⊥) → InSingle key ≡ open_in q key
-  unfolding open_in
-  open_single f = rw (ne_eqb q 34 f)
-
 module _ (s : List ℕ) (q : ℕ) (key : Span) (o e : ℕ) (here : e ≡ first_from (is_byte q) s o) where
-  pub quoted_due : e < length s → Due ≡ quoted_from s q key o
-  unfolding quoted_from
-  quoted_due l = rw (sym here, lt-ltb e (length s) l)
-
   pub quoted_waits : length s ≤ e → open_in q key ≡ quoted_from s q key o
   unfolding quoted_from
   quoted_waits l = rw (sym here, le-ltb e (length s) l)
@@ -60,14 +44,6 @@ module _ (s : List ℕ) (key : Span) (o x : ℕ) (here : x ≡ first_from not_sp
   pub after_waits : length s ≤ x → AfterKey key ≡ after_from s key o
   unfolding after_from after_on
   after_waits l = rw (sym here, le-ltb x (length s) l)
-
-  pub after_valued : x < length s → get_or s x 0 ≡ 61 → value_from s key (x + 1) ≡ after_from s key o
-  unfolding after_from after_on after_by
-  after_valued l e = rw (sym here, lt-ltb x (length s) l, eq-eqb (get_or s x 0) 61 e)
-
-  pub after_bare : x < length s → (get_or s x 0 ≡ 61 → ⊥) → Due ≡ after_from s key o
-  unfolding after_from after_on after_by
-  after_bare l f = rw (sym here, lt-ltb x (length s) l, ne_eqb (get_or s x 0) 61 f)
 
 module _ (s : List ℕ) (start o e : ℕ) (here : e ≡ first_from ends_key s o) where
   pub key_waits : length s ≤ e → InKey start ≡ key_from s start o
@@ -92,19 +68,6 @@ module _ (s : List ℕ) (o w : ℕ) (here : w ≡ first_from is_space s o) where
   unfolding skip_from skip_on
   skip_waits l = rw (sym here, le-ltb w (length s) l)
 
-  pub skip_ends : w < length s → space_from s w ≡ skip_from s o
-  unfolding skip_from skip_on
-  skip_ends l = rw (sym here, lt-ltb w (length s) l)
-
-module _ (s : List ℕ) (o : ℕ) where
-  pub begin_next : o ≤ length s → space_from s o ≡ begin_at s (Next o)
-  unfolding begin_at
-  begin_next l = rw (le-leb o (length s) l)
-
-  pub begin_past : length s < o → Begin ≡ begin_at s (Next o)
-  unfolding begin_at
-  begin_past l = rw (lt-leb o (length s) l)
-
 -- whether a key is refused: by its bounds, then by the verdict
 module _ (s : List ℕ) (checks : Bool) (keys : Keys) (key : Span) where
   pub refused_empty : key.end ≤ key.start → false ≡ refused_of s checks keys key
@@ -115,6 +78,12 @@ module _ (s : List ℕ) (checks : Bool) (keys : Keys) (key : Span) where
   unfolding refused_of key_good
   refused_outside h l = rw (lt-ltb key.start key.end h, lt-leb key.end (length s) l)
 
-  pub refused_asked : key.start < key.end → key.end ≤ length s → (c : Checked) → c ≡ check_of s checks keys key → is_refused c ≡ refused_of s checks keys key
+  pub refused_asked : key.start < key.end → key.end ≤ length s → (c : Result ℕ KeyRefusal) → c ≡ check_of s checks keys key → is_refused c ≡ refused_of s checks keys key
   unfolding refused_of key_good
   refused_asked h l c e = rw (lt-ltb key.start key.end h, le-leb key.end (length s) l, e)
+
+-- a verdict that refuses is an `Err`
+pub refused_err : (c : Result ℕ KeyRefusal) → is_err c ≡ is_refused c
+unfolding is_refused
+refused_err (Ok n) = refl
+refused_err (Err why) = refl

@@ -8,18 +8,18 @@ use native.Mathlib.Omega.{arith}
 use lib.ListN.{length, get_or, length-append, get_or-append}
 use lib.Dec.{eqb, ltb, leb}
 use borrow.Author.Tests.{lt-ltb, ltb-true, ltb-false, le-leb, leb-true, eqb-true, not-true}
+use Rattle.std.proofs.Common.{Result, Ok, Err, Some, None, Option}
 use Rattle.scan.specs.First.{first_from, pick}
 use Rattle.scan.specs.Bytes.{is_space, not_space, ends_key, is_byte}
 use Rattle.scan.proofs.Laws.{first, first_only, skip, past}
-use Rattle.tag_keys.specs.declared.Checked.{Checked}
-use Rattle.tag_keys.specs.declared.Checked.TheVariants.{Fresh, Same, Full}
+use Rattle.tag_keys.specs.declared.KeyRefusal.{KeyRefusal}
+use Rattle.tag_keys.specs.declared.KeyRefusal.TheVariants.{Same, Full}
 use Rattle.tag_keys.specs.Keys.{key_good}
 use Rattle.tag_step.specs.declared.Span.{Span}
 use Rattle.tag_step.specs.declared.Place.{Place}
 use Rattle.tag_step.specs.declared.Place.TheVariants.{Done, Next, SkipValue, SkipEqValue}
-use Rattle.tag_step.specs.declared.Start.TheVariants.{From, Ended}
 use Rattle.tag_step.specs.declared.KeyRead.{KeyRead}
-use Rattle.tag_step.specs.declared.KeyRead.TheVariants.{NoKey, Bare, Valued}
+use Rattle.tag_step.specs.declared.KeyRead.TheVariants.{Bare, Valued}
 use Rattle.tag_step.specs.Read.{span, is_quote, skip_to, skip_of, recover_of, key_at}
 use Rattle.tag_step.specs.Next.{Keys, check_of, place_good}
 use Rattle.tag_step.specs.Look.{look_in, look_from, look_value, look_by, look_key, look_at, look_start, look_of}
@@ -213,12 +213,12 @@ module _ (s : List ℕ) (html checks : Bool) (keys : Keys) where
   fresh_look : (start e x : ℕ) → start < e → e ≤ length s → refused_of s checks keys (span start e) ≡ false → look_by s html x (check_of s checks keys (span start e)) ≡ look_value s html x
   unfolding refused_of key_good is_refused look_by
   fresh_look start e x l h r = by (check_of s checks keys (span start e)) (rw (lt-ltb start e l, le-leb e (length s) h) at r) where
-    by : (c : Checked) → is_refused c ≡ false → look_by s html x c ≡ look_value s html x
-    by (Fresh n) z = refl
-    by (Same p) z = absurd (true≢false z)
-    by Full z = absurd (true≢false z)
+    by : (c : Result ℕ KeyRefusal) → is_refused c ≡ false → look_by s html x c ≡ look_value s html x
+    by (Ok n) z = refl
+    by (Err (Same p)) z = absurd (true≢false z)
+    by (Err Full) z = absurd (true≢false z)
 
-  look_is : (o : ℕ) (k : KeyRead) → k ≡ key_at s o → look_key s html checks keys k ≡ look_at s html checks keys o
+  look_is : (o : ℕ) (k : Option KeyRead) → k ≡ key_at s o → look_key s html checks keys k ≡ look_at s html checks keys o
   unfolding look_at
   look_is o k e = rw e
 
@@ -232,7 +232,7 @@ module _ (s : List ℕ) (html checks : Bool) (keys : Keys) where
           let z = value_waits (span k e) (first_from not_space s e) w in
           let f = (first ends_key s (k + 1) (omega arith)).ahead in
           let a = fresh_look k e (first_from not_space s e) (omega arith) (omega arith) z.0 in
-          let b = look_is o (Valued (span k e) (first_from not_space s e)) (key_valued s o k here l e (first_from not_space s e) ends refl i (eqb-true _ _ q)) in
+          let b = look_is o (Some (Valued (span k e) (first_from not_space s e))) (key_valued s o k here l e (first_from not_space s e) ends refl i (eqb-true _ _ q)) in
           omega (arith, z.1)
       by_byte i false q w = absurd (false≢true w)
 
@@ -240,7 +240,7 @@ module _ (s : List ℕ) (html checks : Bool) (keys : Keys) where
       by true t w = by_byte (ltb-true _ _ t) (eqb (get_or s (first_from not_space s e) 0) 61) refl w
       by false t w =
           let i = ltb-false _ _ t in
-          let b = look_is o (Bare (span k e) (first_from not_space s e)) (key_end s o k here l e (first_from not_space s e) ends refl i) in
+          let b = look_is o (Some (Bare (span k e) (first_from not_space s e))) (key_end s o k here l e (first_from not_space s e) ends refl i) in
           omega arith
 
     key_waits : Waits (key_from s k (k + 1)) → length s ≤ look_at s html checks keys o
@@ -252,7 +252,7 @@ module _ (s : List ℕ) (html checks : Bool) (keys : Keys) where
           let e = first_from ends_key s (k + 1) in
           let i : length s ≤ e = ltb-false _ _ t in
           let p = past not_space s e i in
-          let b = look_is o (Bare (span k e) (first_from not_space s e)) (key_end s o k here l e (first_from not_space s e) refl refl (omega arith)) in
+          let b = look_is o (Some (Bare (span k e) (first_from not_space s e))) (key_end s o k here l e (first_from not_space s e) refl refl (omega arith)) in
           omega arith
 
   space_waits : (o : ℕ) → Waits (space_from s o) → length s ≤ look_at s html checks keys o
@@ -261,13 +261,13 @@ module _ (s : List ℕ) (html checks : Bool) (keys : Keys) where
     by : (t : Bool) → ltb (first_from not_space s o) (length s) ≡ t → Waits (pick t (key_from s (first_from not_space s o) (first_from not_space s o + 1)) InSpace) → length s ≤ look_at s html checks keys o
     by true t w = key_waits o (first_from not_space s o) refl (ltb-true _ _ t) w
     by false t w =
-        let b = look_is o NoKey (key_none s o (first_from not_space s o) refl (ltb-false _ _ t)) in
+        let b = look_is o None (key_none s o (first_from not_space s o) refl (ltb-false _ _ t)) in
         omega arith
 
   skip_waits : (o : ℕ) → Waits (skip_from s o) → length s ≤ look_start s html checks keys (skip_of s o)
   unfolding skip_from skip_on skip_of skip_to look_start
   skip_waits o = by (ltb (first_from is_space s o) (length s)) where
-    by : (t : Bool) → Waits (pick t (space_from s (first_from is_space s o)) InSkip) → length s ≤ look_start s html checks keys (pick t (From (first_from is_space s o)) Ended)
+    by : (t : Bool) → Waits (pick t (space_from s (first_from is_space s o)) InSkip) → length s ≤ look_start s html checks keys (pick t (Some (first_from is_space s o)) None)
     by true w = space_waits (first_from is_space s o) w
     by false w = omega arith
 
@@ -276,7 +276,7 @@ pub waits_look : (s : List ℕ) (html checks : Bool) (keys : Keys) (place : Plac
 unfolding begin_at look_of recover_of look_start waits_on waiting_of waits_by
 waits_look s html checks keys Done w = absurd (false≢true w)
 waits_look s html checks keys (Next o) w = by (leb o (length s)) w where
-  by : (t : Bool) → waits_on s html checks keys (pick t (space_from s o) Begin) ≡ true → length s ≤ look_start s html checks keys (pick t (From o) Ended)
+  by : (t : Bool) → waits_on s html checks keys (pick t (space_from s o) Begin) ≡ true → length s ≤ look_start s html checks keys (pick t (Some o) None)
   by true w = space_waits s html checks keys o w
   by false w = absurd (false≢true w)
 waits_look s html checks keys (SkipValue o) w = skip_waits s html checks keys o w

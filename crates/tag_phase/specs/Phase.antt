@@ -1,10 +1,9 @@
 -- How far the scan for the next answer has come in what is held of a tag that arrives in pieces. Mode and checks do not enter:
 -- whoever has the key tables asks whether a phase waits (`waits_on`).
-use Rattle.std.specs.Prelude.{ℕ, ◌+◌, Bool, true, false, not, ◌&&◌, List, length, get_or, eqb, ltb, leb}
+use Rattle.std.specs.Prelude.{ℕ, ◌+◌, Bool, true, false, not, ◌&&◌, List, length, get_or, eqb, ltb, leb, Result, Ok, Err}
 use Rattle.scan.specs.First.{first_from, pick}
 use Rattle.scan.specs.Bytes.{is_space, not_space, ends_key, is_byte}
-use Rattle.tag_keys.specs.declared.Checked.{Checked}
-use Rattle.tag_keys.specs.declared.Checked.TheVariants.{Fresh, Same, Full}
+use Rattle.tag_keys.specs.declared.KeyRefusal.{KeyRefusal}
 use Rattle.tag_keys.specs.Keys.{key_good}
 use Rattle.tag_step.specs.declared.Span.{Span}
 use Rattle.tag_step.specs.declared.Place.{Place}
@@ -105,10 +104,9 @@ waiting_of html (InDouble key) = UnlessRefused key
 waiting_of html (InSingle key) = UnlessRefused key
 waiting_of html (InUnquoted key) = pick html (UnlessRefused key) Never
 
-unfoldable pub is_refused : Checked → Bool
-is_refused (Fresh n) = false
-is_refused (Same earlier) = true
-is_refused Full = true
+unfoldable pub is_refused : Result ℕ KeyRefusal → Bool
+is_refused (Ok n) = false
+is_refused (Err why) = true
 
 -- 5 or 6 answers this key. Bounds that are no key's are those of a phase made by hand.
 unfoldable pub refused_of : List ℕ → Bool → Keys → Span → Bool

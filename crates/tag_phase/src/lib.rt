@@ -6,13 +6,10 @@
 #![tactic(auto)]
 
 ghost use Rattle.std.specs.Prelude.{◌≡◌};
-ghost use Rattle.scan.specs.First.{pick};
 ghost use Rattle.tag_keys.specs.Keys.{KeysIn};
 ghost use Rattle.tag_step.specs.Next.{keys_lent};
 ghost use Rattle.tag_phase.specs.Phase.{unquoted_from, open_in, quoted_from, value_from, after_from, key_from, space_from, skip_from, begin_at, carried_of, waiting_of, refused_of, waits_on};
-ghost use Rattle.tag_phase.specs.declared.Waiting.TheVariants.{Never, UnlessRefused};
 
-use tag_keys::Checked;
 use tag_step::{Place, Span, Standing};
 
 // Where the scan stands at the end of what is held. A key that is in it is its bounds.
@@ -54,6 +51,7 @@ pub enum Waiting {
 //     key=value
 //         |    ^
 //      from    whitespace
+#[tactic(auto, unfolding(crate::specs::Phase::unquoted_from))]
 fn unquoted_from(tag: &[u8], key: Span, from: usize) -> Phase
     ensures { result ≡ unquoted_from tag.now key from }
 {
@@ -63,6 +61,7 @@ fn unquoted_from(tag: &[u8], key: Span, from: usize) -> Phase
     Phase::InUnquoted(key)
 }
 
+#[tactic(auto, unfolding(crate::specs::Phase::open_in))]
 fn open_in(quote: u8, key: Span) -> Phase
     ensures { result ≡ open_in quote key }
 {
@@ -77,6 +76,7 @@ fn open_in(quote: u8, key: Span) -> Phase
 //     key="value"
 //          |    ^
 //       from    the same quote
+#[tactic(auto, unfolding(crate::specs::Phase::quoted_from))]
 fn quoted_from(tag: &[u8], quote: u8, key: Span, from: usize) -> Phase
     ensures { result ≡ quoted_from tag.now quote key from }
 {
@@ -91,6 +91,7 @@ fn quoted_from(tag: &[u8], quote: u8, key: Span, from: usize) -> Phase
 //     key=  "value"
 //         | ^
 //      from v
+#[tactic(auto, unfolding(crate::specs::Phase::value_from, crate::specs::Phase::value_on, crate::specs::Phase::value_by))]
 fn value_from(tag: &[u8], key: Span, from: usize) -> Phase
     ensures { result ≡ value_from tag.now key from }
 {
@@ -110,6 +111,7 @@ fn value_from(tag: &[u8], key: Span, from: usize) -> Phase
 //     key  =
 //        | ^
 //     from x
+#[tactic(auto, unfolding(crate::specs::Phase::after_from, crate::specs::Phase::after_on, crate::specs::Phase::after_by))]
 fn after_from(tag: &[u8], key: Span, from: usize) -> Phase
     ensures { result ≡ after_from tag.now key from }
 {
@@ -130,6 +132,7 @@ fn after_from(tag: &[u8], key: Span, from: usize) -> Phase
 //     | |e
 //     | from
 //     start
+#[tactic(auto, unfolding(crate::specs::Phase::key_from, crate::specs::Phase::key_on))]
 fn key_from(tag: &[u8], start: usize, from: usize) -> Phase
     ensures { result ≡ key_from tag.now start from }
 {
@@ -137,14 +140,12 @@ fn key_from(tag: &[u8], start: usize, from: usize) -> Phase
     if e >= tag.len() {
         return Phase::InKey(start);
     }
-    let key = Span {
-        start: start,
-        end: e,
-    };
+    let key = Span { start, end: e };
     after_from(tag, key, e)
 }
 
 // Before a key.
+#[tactic(auto, unfolding(crate::specs::Phase::space_from, crate::specs::Phase::space_on))]
 fn space_from(tag: &[u8], from: usize) -> Phase
     ensures { result ≡ space_from tag.now from }
 {
@@ -156,6 +157,7 @@ fn space_from(tag: &[u8], from: usize) -> Phase
 }
 
 // In what is passed over after refusal 3 or 5.
+#[tactic(auto, unfolding(crate::specs::Phase::skip_from, crate::specs::Phase::skip_on))]
 fn skip_from(tag: &[u8], from: usize) -> Phase
     ensures { result ≡ skip_from tag.now from }
 {
@@ -167,19 +169,14 @@ fn skip_from(tag: &[u8], from: usize) -> Phase
 }
 
 // From the place on.
+#[tactic(auto, unfolding(crate::specs::Phase::begin_at))]
 fn begin_at(tag: &[u8], place: Place) -> Phase
     ensures { result ≡ begin_at tag.now place }
 {
     match place {
-        Place::Done => Phase::Begin,
-        Place::Next(offset) => {
-            if offset <= tag.len() {
-                return space_from(tag, offset);
-            }
-            Phase::Begin
-        }
-        Place::SkipValue(offset) => skip_from(tag, offset),
-        Place::SkipEqValue(offset) => skip_from(tag, offset),
+        Place::Next(offset) if offset <= tag.len() => space_from(tag, offset),
+        Place::Done | Place::Next(_) => Phase::Begin,
+        Place::SkipValue(offset) | Place::SkipEqValue(offset) => skip_from(tag, offset),
     }
 }
 
@@ -202,31 +199,19 @@ pub fn carry(tag: &[u8], from: usize, place: Place, phase: Phase) -> Phase
     }
 }
 
-fn unquoted_waits(html: bool, key: Span) -> Waiting
-    ensures { result ≡ pick html (UnlessRefused key) Never }
-{
-    if html {
-        return Waiting::UnlessRefused(key);
-    }
-    Waiting::Never
-}
-
 // Whether a phase waits in this mode.
 #[tactic(auto, unfolding(crate::specs::Phase::waiting_of))]
 fn waiting_in(html: bool, phase: Phase) -> Waiting
     ensures { result ≡ waiting_of html phase }
 {
     match phase {
-        Phase::Begin => Waiting::Never,
-        Phase::Due => Waiting::Never,
-        Phase::InSkip => Waiting::Always,
-        Phase::InSpace => Waiting::Always,
-        Phase::InKey(_) => Waiting::Always,
-        Phase::AfterKey(_) => Waiting::Always,
-        Phase::BeforeValue(key) => Waiting::UnlessRefused(key),
-        Phase::InDouble(key) => Waiting::UnlessRefused(key),
-        Phase::InSingle(key) => Waiting::UnlessRefused(key),
-        Phase::InUnquoted(key) => unquoted_waits(html, key),
+        Phase::Begin | Phase::Due => Waiting::Never,
+        Phase::InSkip | Phase::InSpace | Phase::InKey(_) | Phase::AfterKey(_) => Waiting::Always,
+        Phase::InUnquoted(_) if !html => Waiting::Never,
+        Phase::BeforeValue(key)
+        | Phase::InDouble(key)
+        | Phase::InSingle(key)
+        | Phase::InUnquoted(key) => Waiting::UnlessRefused(key),
     }
 }
 
@@ -243,20 +228,13 @@ fn refused<'a>(
     requires { KeysIn starts.now ends.now hashes.now count tag.now }
     ensures { result ≡ refused_of tag.now checks (keys_lent starts.now ends.now hashes.now count) key }
 {
-    if key.start >= key.end {
-        return false;
-    }
-    if key.end > tag.len() {
-        return false;
-    }
-    match tag_look::check_in(tag, starts, ends, hashes, checks, count, key) {
-        Checked::Fresh(_) => false,
-        Checked::Same(_) => true,
-        Checked::Full => true,
-    }
+    key.start < key.end
+        && key.end <= tag.len()
+        && tag_look::check_in(tag, starts, ends, hashes, checks, count, key).is_err()
 }
 
 // Whether the phase says that the next answer needs bytes that are not held yet.
+#[tactic(auto, unfolding(crate::specs::Phase::waits_on, crate::specs::Phase::waits_by))]
 pub fn waits<'a>(
     tag: &[u8],
     starts: &'a [usize],

@@ -1,10 +1,10 @@
 -- A reader of a tag that arrives in pieces: document 02, request 1. It is the bytes that are held, whether the tag is finished,
 -- an iterator over what is held, and the phase of its scan. Text and key tables are its own, or lent, and then they may be shorter.
-use Rattle.std.specs.Prelude.{ℕ, ◌+◌, Bool, true, false, not, ◌&&◌, ◌||◌, List, length, take, replicate, ltb, leb}
+use Rattle.std.specs.Prelude.{ℕ, ◌+◌, Bool, true, false, not, ◌&&◌, ◌||◌, List, length, take, replicate, ltb, leb, Some, Err, Option, None, Result, Ok}
 use Rattle.scan.specs.First.{pick}
 use Rattle.scan.specs.Lists.{over}
-use Rattle.tag_step.specs.declared.Answer.{Answer}
-use Rattle.tag_step.specs.declared.Answer.TheVariants.{BadState}
+use Rattle.tag_step.specs.Answer.{Answer}
+use Rattle.tag_step.specs.declared.AttrError.TheVariants.{BadState}
 use Rattle.tag_step.specs.declared.IterState.{IterState}
 use Rattle.tag_step.specs.declared.Place.{Place}
 use Rattle.tag_step.specs.declared.Place.TheVariants.{Done, Next}
@@ -16,10 +16,9 @@ use Rattle.tag_phase.specs.declared.Phase.{Phase}
 use Rattle.tag_phase.specs.declared.Phase.TheVariants.{Begin}
 use Rattle.tag_phase.specs.Phase.{carried_of, waits_on}
 use Rattle.tag_pieces.specs.declared.Reader.{Reader}
-use Rattle.tag_pieces.specs.declared.Fed.{Fed}
-use Rattle.tag_pieces.specs.declared.Fed.TheVariants.{Accepted, Finished, TooLong, LendMore}
-use Rattle.tag_pieces.specs.declared.Taken.{Taken}
-use Rattle.tag_pieces.specs.declared.Taken.TheVariants.{More, Gives, MoreKeys}
+use Rattle.tag_pieces.specs.declared.FeedError.{FeedError}
+use Rattle.tag_pieces.specs.declared.FeedError.TheVariants.{Finished, TooLong, LendMore}
+use Rattle.tag_pieces.specs.declared.MoreKeys.{MoreKeys}
 use Rattle.tag_pieces.specs.declared.Take.{Take}
 use Rattle.tag_pieces.specs.declared.Feeding.{Feeding}
 
@@ -38,37 +37,33 @@ iterator_of r = lent_state r.place r.html r.check_duplicates r.starts r.ends r.h
 -- A piece.
 
 -- 32 after the finish; then 31 where more than can be held would be held; then, on lent text, 98 where it is too short.
-unfoldable pub fed_of : (finished : Bool) (room held n : ℕ) → Fed
+unfoldable pub fed_of : (finished : Bool) (room held n : ℕ) → Result (Unit {0}) FeedError
 fed_of finished room held n =
-    pick finished Finished
-    (pick (ltb hold (held + n)) TooLong
-    (pick (ltb room (held + n)) LendMore
-    Accepted))
+    pick finished (Err Finished)
+    (pick (ltb hold (held + n)) (Err TooLong)
+    (pick (ltb room (held + n)) (Err LendMore)
+    (Ok tt)))
 
-unfoldable pub is_accepted : Fed → Bool
-is_accepted Accepted = true
-is_accepted Finished = false
-is_accepted TooLong = false
-is_accepted LendMore = false
+unfoldable pub is_accepted : Result (Unit {0}) FeedError → Bool
+is_accepted (Ok u) = true
+is_accepted (Err e) = false
 
 -- what a piece changes
 pub record Grown : Type 0 where
-  pub fed : Fed
+  pub fed : Result (Unit {0}) FeedError
   pub text : List ℕ
   pub held : ℕ
   pub phase : Phase
 
-abbrev pub grown : Fed → List ℕ → ℕ → Phase → Grown
+abbrev pub grown : Result (Unit {0}) FeedError → List ℕ → ℕ → Phase → Grown
 grown fed text held phase = record { fed = fed; text = text; held = held; phase = phase }
 
 -- A piece that is accepted is held behind the others, and carries the phase on. Any other changes nothing.
-unfoldable pub grown_by : Fed → (text : List ℕ) (held : ℕ) → Place → Phase → List ℕ → Grown
-grown_by Accepted text held place phase p =
-    grown Accepted (over text held p) (held + length p)
+unfoldable pub grown_by : Result (Unit {0}) FeedError → (text : List ℕ) (held : ℕ) → Place → Phase → List ℕ → Grown
+grown_by (Ok u) text held place phase p =
+    grown (Ok u) (over text held p) (held + length p)
     (carried_of (take (held + length p) (over text held p)) held place phase)
-grown_by Finished text held place phase p = grown Finished text held phase
-grown_by TooLong text held place phase p = grown TooLong text held phase
-grown_by LendMore text held place phase p = grown LendMore text held phase
+grown_by (Err e) text held place phase p = grown (Err e) text held phase
 
 unfoldable pub piece_in : (text : List ℕ) (held : ℕ) (finished : Bool) → Place → Phase → List ℕ → Grown
 piece_in text held finished place phase p = grown_by (fed_of finished (length text) held (length p)) text held place phase p
@@ -90,7 +85,7 @@ holding r text held phase =
       count = r.count;
     }
 
-abbrev pub feeding : Fed → Reader → Feeding
+abbrev pub feeding : Result (Unit {0}) FeedError → Reader → Feeding
 feeding fed r = record { fed = fed; reader = r }
 
 abbrev pub fed_with : Reader → Grown → Feeding
@@ -117,7 +112,7 @@ finished_as r =
     }
 
 unfoldable pub finish_of : Reader → Feeding
-finish_of r = pick r.finished (feeding Finished r) (feeding Accepted (finished_as r))
+finish_of r = pick r.finished (feeding (Err Finished) r) (feeding (Ok tt) (finished_as r))
 
 -- An answer.
 
@@ -156,7 +151,7 @@ waits_for r =
     && (waits_on (held_of r) r.html r.check_duplicates (keys_of (iterator_of r)) r.phase
     || leb (length (held_of r)) (look_next (held_of r) (iterator_of r)))
 
-abbrev pub took : Taken → Reader → Take
+abbrev pub took : Result (Option Answer) MoreKeys → Reader → Take
 took x r = record { taken = x; reader = r }
 
 -- the phase after an answer: the scan begins anew, but for the end, after which nothing is looked for
@@ -166,14 +161,14 @@ phase_after a phase = pick (is_end a) phase Begin
 -- the answer of the iterator over what is held; where the lent tables have no place for its key nothing is changed
 unfoldable pub answered_of : List ℕ → IterState → Reader → Take
 answered_of s st r =
-    pick (needs_more s st) (took MoreKeys r)
-    (took (Gives (whole_next s st).answer) (moved r (stepped_of s st) r.held (phase_after (whole_next s st).answer r.phase)))
+    pick (needs_more s st) (took (Err (record {})) r)
+    (took (Ok (Some (whole_next s st).answer)) (moved r (stepped_of s st) r.held (phase_after (whole_next s st).answer r.phase)))
 
 -- 7 comes first; more changes nothing.
 unfoldable pub take_of : Reader → Take
 take_of r =
-    pick (reader_good r) (pick (waits_for r) (took More r) (answered_of (held_of r) (iterator_of r) r))
-    (took (Gives BadState) (emptied r))
+    pick (reader_good r) (pick (waits_for r) (took (Ok None) r) (answered_of (held_of r) (iterator_of r) r))
+    (took (Ok (Some (Some (Err BadState)))) (emptied r))
 
 -- A reader that is opened at position o: nothing is held.
 unfoldable pub opened_reader : ℕ → Bool → Bool → Reader
@@ -210,8 +205,8 @@ with_checks checks r =
     }
 
 -- Documents number the refusals: 0 where a piece or a finish is accepted, 98 where longer text has to be lent.
-unfoldable pub fed_number : Fed → ℕ
-fed_number Accepted = 0
-fed_number Finished = 32
-fed_number TooLong = 31
-fed_number LendMore = 98
+unfoldable pub fed_number : Result (Unit {0}) FeedError → ℕ
+fed_number (Ok u) = 0
+fed_number (Err Finished) = 32
+fed_number (Err TooLong) = 31
+fed_number (Err LendMore) = 98

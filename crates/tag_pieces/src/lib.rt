@@ -48,10 +48,9 @@ pub struct Cursor {
     pub phase: Phase,
 }
 
-// What becomes of a piece, or of a finish.
+// Why a piece, or a finish, is not accepted.
 #[derive(Clone, Copy)]
-pub enum Fed {
-    Accepted,
+pub enum FeedError {
     // 32: the tag is finished already.
     Finished,
     // 31: more bytes would be held than `HOLD`.
@@ -63,81 +62,65 @@ pub enum Fed {
 // The reader after a piece or a finish.
 #[derive(Clone, Copy)]
 pub struct Feeding {
-    pub fed: Fed,
+    pub fed: Result<(), FeedError>,
     pub reader: Reader,
 }
 
-// What `take` gives.
+// The next key is due to be recorded, and no place is lent for it.
 #[derive(Clone, Copy)]
-pub enum Taken {
-    // No answer is ready, and the tag is not finished.
-    More,
-    Gives(Answer),
-    // The next key is due to be recorded, and no place is lent for it.
-    MoreKeys,
-}
+pub struct MoreKeys;
 
-// The reader after it.
+// What `take` gives, and the reader after it. None: no answer is ready, and the tag is not finished.
 #[derive(Clone, Copy)]
 pub struct Take {
-    pub taken: Taken,
+    pub taken: Result<Option<Answer>, MoreKeys>,
     pub reader: Reader,
 }
 
 // What a piece leaves, beside the text.
 #[derive(Clone, Copy)]
 pub struct Growth {
-    pub fed: Fed,
+    pub fed: Result<(), FeedError>,
     pub held: usize,
     pub phase: Phase,
 }
 
-impl Fed {
-    // 0, or the number of the refusal; 98 where text has to be lent.
-    #[tactic(auto, unfolding(crate::specs::Reader::fed_number))]
-    pub fn number(self) -> usize
-        ensures { result ≡ fed_number self }
-    {
-        match self {
-            Fed::Accepted => 0,
-            Fed::Finished => 32,
-            Fed::TooLong => 31,
-            Fed::LendMore => 98,
-        }
+// 0, or the number of the refusal; 98 where text has to be lent.
+#[tactic(auto, unfolding(crate::specs::Reader::fed_number))]
+pub fn fed_number(fed: Result<(), FeedError>) -> usize
+    ensures { result ≡ fed_number fed }
+{
+    match fed {
+        Ok(()) => 0,
+        Err(FeedError::Finished) => 32,
+        Err(FeedError::TooLong) => 31,
+        Err(FeedError::LendMore) => 98,
     }
 }
 
 // What becomes of a piece of `n` bytes. What is held may be any number, so that the sum is not made before it is known to fit.
 #[tactic(auto, unfolding(crate::specs::Reader::fed_of))]
-fn fed_by(finished: bool, room: usize, held: usize, n: usize) -> Fed
+fn fed_by(finished: bool, room: usize, held: usize, n: usize) -> Result<(), FeedError>
     ensures { result ≡ fed_of finished room held n }
 {
     if finished {
-        return Fed::Finished;
+        return Err(FeedError::Finished);
     }
-    if n > HOLD {
-        return Fed::TooLong;
-    }
-    if held > HOLD - n {
-        return Fed::TooLong;
+    if n > HOLD || held > HOLD - n {
+        return Err(FeedError::TooLong);
     }
     if held + n > room {
-        return Fed::LendMore;
+        return Err(FeedError::LendMore);
     }
-    Fed::Accepted
+    Ok(())
 }
 
 // Whether a piece or a finish is accepted.
 #[tactic(auto, unfolding(crate::specs::Reader::is_accepted))]
-pub fn accepted(fed: Fed) -> bool
+pub fn accepted(fed: Result<(), FeedError>) -> bool
     ensures { result ≡ is_accepted fed }
 {
-    match fed {
-        Fed::Accepted => true,
-        Fed::Finished => false,
-        Fed::TooLong => false,
-        Fed::LendMore => false,
-    }
+    fed.is_ok()
 }
 
 // One piece more on lent text. It is copied behind what is held, and looked at once; where it is refused nothing is changed.
@@ -145,23 +128,23 @@ pub fn piece_in(text: &mut [u8], at: Cursor, piece: &[u8]) -> Growth
     ensures { grown result.fed text.new result.held result.phase
         ≡ piece_in text.old at.held at.finished at.place at.phase piece.now }
 {
-    let held = at.held;
-    let phase = at.phase;
-    let place = at.place;
+    let Cursor {
+        place,
+        held,
+        finished,
+        phase,
+        ..
+    } = at;
     let n = piece.len();
-    let fed = fed_by(at.finished, text.len(), held, n);
+    let fed = fed_by(finished, text.len(), held, n);
     if !accepted(fed) {
-        return Growth {
-            fed: fed,
-            held: held,
-            phase: phase,
-        };
+        return Growth { fed, held, phase };
     }
     let to = held + n;
     scan::put(text, held, piece);
     let after = tag_phase::carry(&text[..to], held, place, phase);
     Growth {
-        fed: Fed::Accepted,
+        fed,
         held: to,
         phase: after,
     }

@@ -6,18 +6,16 @@ use mathlib.Core.Bool.{Bool, true, false}
 use mathlib.Core.List.{List}
 use native.Mathlib.Omega.{arith}
 use lib.ListN.{length, replicate, length-replicate}
+use Rattle.std.proofs.Common.{Option, Some, None}
+use Rattle.std.specs.Prelude.{Err}
 use Rattle.scan.specs.First.{pick}
 use Rattle.scan.proofs.Bytes.{and_on, both}
 use Rattle.tag_keys.specs.Keys.{capacity, KeysIn, KeyRoom, table_good}
 use Rattle.tag_keys.proofs.Laws.{in_table, keys_none}
 use Rattle.tag_step.specs.declared.Place.{Place}
 use Rattle.tag_step.specs.declared.Place.TheVariants.{Done}
-use Rattle.tag_step.specs.declared.Answer.TheVariants.{BadState}
-use Rattle.tag_step.specs.declared.Start.{Start}
-use Rattle.tag_step.specs.declared.Start.TheVariants.{From, Ended}
+use Rattle.tag_step.specs.declared.AttrError.TheVariants.{BadState}
 use Rattle.tag_step.specs.declared.Advance.{Advance}
-use Rattle.tag_step.specs.declared.Stepped.{Stepped}
-use Rattle.tag_step.specs.declared.Stepped.TheVariants.{Made, LendMore}
 use Rattle.tag_step.specs.declared.IterState.{IterState}
 use Rattle.tag_step.specs.Read.{found, recover_of}
 use Rattle.tag_step.specs.Next.{Keys, Reading, keys_lent, advanced, step_from, step_of, place_good, good_of, keys_of, lent_state, state_good, no_keys, reading, bad_reading, leaves, next_of, opened, with_checks}
@@ -30,9 +28,9 @@ use Rattle.tag_step.proofs.Progress.{after_good, read_forward}
 pub step_stands : (s : List ℕ) (html checks : Bool) (keys : Keys) (place : Place) → place_good s place ≡ true → place_good s (step_of s html checks keys place).place ≡ true
 unfolding step_of step_from
 step_stands s html checks keys place g = by (recover_of s place) refl where
-  by : (x : Start) → recover_of s place ≡ x → place_good s (step_from s html checks keys place x).place ≡ true
-  by Ended e = g
-  by (From o) e = after_good s o _ (read_forward s html checks keys o (starts_in s place o e))
+  by : (x : Option ℕ) → recover_of s place ≡ x → place_good s (step_from s html checks keys place x).place ≡ true
+  by None e = g
+  by (Some o) e = after_good s o _ (read_forward s html checks keys o (starts_in s place o e))
 
 -- keys that lie in the tag and a good place are a good state
 parts_good : (s : List ℕ) (keys : Keys) (place : Place) → KeysIn keys.starts keys.ends keys.hashes keys.count s → place_good s place ≡ true → good_of s keys place ≡ true
@@ -70,24 +68,24 @@ module _ (s : List ℕ) (st : IterState) (sized : Sized st) (good : state_good s
       (step_stands s st.html st.check_duplicates (keys_of st) st.place (both (table_good s st.starts st.ends st.hashes st.count) (place_good s st.place) good).1)
 
   -- what `step_in` does on such tables
-  module _ (r : Stepped) (starts ends hashes : List ℕ) (e : taken r starts ends hashes st.count ≡ step_in s st.html st.check_duplicates (keys_lent st.starts st.ends st.hashes st.count) st.place) where
-    pub sized_next : (o : Advance) → r ≡ Made o → record { answer = o.answer; state = lent_state o.place st.html st.check_duplicates starts ends hashes o.count } ≡ next_of s st
+  module _ (r : Option Advance) (starts ends hashes : List ℕ) (e : taken r starts ends hashes st.count ≡ step_in s st.html st.check_duplicates (keys_lent st.starts st.ends st.hashes st.count) st.place) where
+    pub sized_next : (o : Advance) → r ≡ Some o → record { answer = o.answer; state = lent_state o.place st.html st.check_duplicates starts ends hashes o.count } ≡ next_of s st
     unfolding leaves keys_of
     sized_next o m =
         next_steps s st good (advanced o starts ends hashes)
         (room_made s st.check_duplicates (keys_of st) sized_inside (sized_room st sized) st.html st.place r o starts ends hashes e m)
 
-    pub sized_never : r ≡ LendMore → ⊥
+    pub sized_never : r ≡ None → ⊥
     unfolding keys_of
     sized_never m = room_never s st.check_duplicates (keys_of st) sized_inside (sized_room st sized) st.html st.place r starts ends hashes e m
 
 -- Refusal 7 leaves such tables all zero.
-pub sized_cleared : (s : List ℕ) (st : IterState) → Sized st → state_good s st ≡ false → (starts ends hashes : List ℕ) → starts ≡ replicate (length st.starts) 0 → ends ≡ replicate (length st.ends) 0 → hashes ≡ replicate (length st.hashes) 0 → leaves st (reading (found BadState Done) (keys_lent starts ends hashes 0)) ≡ next_of s st
+pub sized_cleared : (s : List ℕ) (st : IterState) → Sized st → state_good s st ≡ false → (starts ends hashes : List ℕ) → starts ≡ replicate (length st.starts) 0 → ends ≡ replicate (length st.ends) 0 → hashes ≡ replicate (length st.hashes) 0 → leaves st (reading (found (Some (Err BadState)) Done) (keys_lent starts ends hashes 0)) ≡ next_of s st
 unfolding bad_reading no_keys
 sized_cleared s st z bad starts ends hashes a b d =
-    ap (λ (t : List ℕ). leaves st (reading (found BadState Done) (keys_lent t ends hashes 0))) (a ∙ ap (λ (n : ℕ). replicate n 0) z.starts)
-    ∙ ap (λ (t : List ℕ). leaves st (reading (found BadState Done) (keys_lent (replicate capacity 0) t hashes 0))) (b ∙ ap (λ (n : ℕ). replicate n 0) z.ends)
-    ∙ ap (λ (t : List ℕ). leaves st (reading (found BadState Done) (keys_lent (replicate capacity 0) (replicate capacity 0) t 0))) (d ∙ ap (λ (n : ℕ). replicate n 0) z.hashes)
+    ap (λ (t : List ℕ). leaves st (reading (found (Some (Err BadState)) Done) (keys_lent t ends hashes 0))) (a ∙ ap (λ (n : ℕ). replicate n 0) z.starts)
+    ∙ ap (λ (t : List ℕ). leaves st (reading (found (Some (Err BadState)) Done) (keys_lent (replicate capacity 0) t hashes 0))) (b ∙ ap (λ (n : ℕ). replicate n 0) z.ends)
+    ∙ ap (λ (t : List ℕ). leaves st (reading (found (Some (Err BadState)) Done) (keys_lent (replicate capacity 0) (replicate capacity 0) t 0))) (d ∙ ap (λ (n : ℕ). replicate n 0) z.hashes)
     ∙ next_bad s st bad
 
 none_good : (s : List ℕ) → good_of s no_keys Done ≡ true

@@ -8,29 +8,26 @@ use native.Mathlib.Omega.{arith}
 use lib.ListN.{length, set, take, replicate}
 use lib.Seq.{take_at, take_all}
 use lib.Dec.{leb}
+use Rattle.std.proofs.Common.{Result, Ok, Err, Option, Some, None}
 use Rattle.scan.specs.First.{first_to, pick}
 use Rattle.scan.specs.Bytes.{part}
 use Rattle.scan.specs.Lists.{pad_to}
 use Rattle.scan.proofs.Bytes.{both}
 use Rattle.scan.proofs.Lists.{pad_at, pad_length, pad_take, pad_full}
-use Rattle.tag_keys.specs.declared.Checked.{Checked}
-use Rattle.tag_keys.specs.declared.Checked.TheVariants.{Fresh, Same, Full}
+use Rattle.tag_keys.specs.declared.KeyRefusal.{KeyRefusal}
+use Rattle.tag_keys.specs.declared.KeyRefusal.TheVariants.{Same, Full}
 use Rattle.tag_keys.specs.Hash.{hash_of}
 use Rattle.tag_keys.specs.Keys.{capacity, hash_is, key_bad, holds, count_good, table_good, KeysIn, name_at, same_key, oldest_of, earlier_of, checked_of, written_by}
 use Rattle.tag_keys.proofs.Laws.{table_in, in_table, facts_hold}
 use Rattle.tag_step.specs.declared.Span.{Span}
 use Rattle.tag_step.specs.declared.Place.{Place}
 use Rattle.tag_step.specs.declared.Place.TheVariants.{Done}
-use Rattle.tag_step.specs.declared.Start.{Start}
-use Rattle.tag_step.specs.declared.Start.TheVariants.{From, Ended}
 use Rattle.tag_step.specs.declared.KeyRead.{KeyRead}
-use Rattle.tag_step.specs.declared.KeyRead.TheVariants.{NoKey, Bare, Valued}
-use Rattle.tag_step.specs.declared.Answer.TheVariants.{End, ExpectedEq, BadState}
+use Rattle.tag_step.specs.declared.KeyRead.TheVariants.{Bare, Valued}
+use Rattle.tag_step.specs.declared.AttrError.TheVariants.{ExpectedEq, BadState}
 use Rattle.tag_step.specs.declared.IterState.{IterState}
 use Rattle.tag_step.specs.declared.Step.{Step}
 use Rattle.tag_step.specs.declared.Advance.{Advance}
-use Rattle.tag_step.specs.declared.Stepped.{Stepped}
-use Rattle.tag_step.specs.declared.Stepped.TheVariants.{Made, LendMore}
 use Rattle.tag_step.specs.Read.{found, recover_of, key_at}
 use Rattle.tag_step.specs.Next.{Keys, Reading, reading, keys_lent, check_of, kept_by, bare_to, bare_of, valued_to, valued_of, read_key, read_at, step_from, step_of, place_at, place_good, advanced, keys_of, lent_state, state_good, no_keys, bad_reading, leaves, next_of}
 use Rattle.tag_step.specs.Lent.{whole_of, whole_next, needs_more, stepped_of, Took, Short, taken, taken_on}
@@ -46,12 +43,12 @@ set_front [] z i x = refl
 set_front (a ∷ t) z zero x = ap (λ (l : List ℕ). x ∷ l) (take_at t z (length t) refl)
 set_front (a ∷ t) z (suc i) x = ap (λ (l : List ℕ). a ∷ l) (set_front t z i x)
 
-written_front : (checks : Bool) (c : Checked) (t : List ℕ) (count x : ℕ) → take (length t) (written_by checks c (pad_to capacity t) count x) ≡ written_by checks c t count x
+written_front : (checks : Bool) (c : Result ℕ KeyRefusal) (t : List ℕ) (count x : ℕ) → take (length t) (written_by checks c (pad_to capacity t) count x) ≡ written_by checks c t count x
 unfolding written_by pad_to
-written_front true (Fresh n) t count x = set_front t (replicate (capacity - length t) 0) count x
-written_front false (Fresh n) t count x = pad_take capacity t
-written_front checks (Same p) t count x = pad_take capacity t
-written_front checks Full t count x = pad_take capacity t
+written_front true (Ok n) t count x = set_front t (replicate (capacity - length t) 0) count x
+written_front false (Ok n) t count x = pad_take capacity t
+written_front checks (Err (Same p)) t count x = pad_take capacity t
+written_front checks (Err Full) t count x = pad_take capacity t
 
 take_zeros : (m n : ℕ) → m ≤ n → take m (replicate {A = ℕ} n 0) ≡ replicate m 0
 take_zeros zero n h = refl
@@ -100,7 +97,7 @@ module _ (s : List ℕ) (html checks : Bool) (keys : Keys) where
   front_all : keys ≡ front keys (padded keys)
   front_all = rw (pad_take capacity keys.starts, pad_take capacity keys.ends, pad_take capacity keys.hashes)
 
-  kept_front : (key : Span) (c : Checked) → kept_by s checks keys key c ≡ front keys (kept_by s checks (padded keys) key c)
+  kept_front : (key : Span) (c : Result ℕ KeyRefusal) → kept_by s checks keys key c ≡ front keys (kept_by s checks (padded keys) key c)
   unfolding kept_by
   kept_front key c = rw (written_front checks c keys.starts keys.count key.start, written_front checks c keys.ends keys.count key.end, written_front checks c keys.hashes keys.count (hash_of (part s key.start key.end)))
 
@@ -111,20 +108,20 @@ module _ (s : List ℕ) (html checks : Bool) (keys : Keys) where
   front_bare : (key : Span) (at : ℕ) (h : Bool) → bare_of s h checks keys key at ≡ fronted keys (bare_of s h checks (padded keys) key at)
   unfolding bare_of bare_to
   front_bare key at true = rw (verdict key, kept_front key (check_of s checks keys key))
-  front_bare key at false = ap (λ (k : Keys). reading (found (ExpectedEq at) (place_at s at)) k) front_all
+  front_bare key at false = ap (λ (k : Keys). reading (found (Some (Err (ExpectedEq at))) (place_at s at)) k) front_all
 
-  front_key : (k : KeyRead) → read_key s html checks keys k ≡ fronted keys (read_key s html checks (padded keys) k)
+  front_key : (k : Option KeyRead) → read_key s html checks keys k ≡ fronted keys (read_key s html checks (padded keys) k)
   unfolding read_key valued_of valued_to
-  front_key NoKey = ap (λ (k : Keys). reading (found End Done) k) front_all
-  front_key (Bare key at) = front_bare key at html
-  front_key (Valued key eq) = rw (verdict key, kept_front key (check_of s checks keys key))
+  front_key None = ap (λ (k : Keys). reading (found None Done) k) front_all
+  front_key (Some (Bare key at)) = front_bare key at html
+  front_key (Some (Valued key eq)) = rw (verdict key, kept_front key (check_of s checks keys key))
 
   front_step : (place : Place) → step_of s html checks keys place ≡ fronted keys (step_of s html checks (padded keys) place)
   unfolding step_of step_from read_at
   front_step place = by (recover_of s place) where
-    by : (x : Start) → step_from s html checks keys place x ≡ fronted keys (step_from s html checks (padded keys) place x)
-    by (From o) = front_key (key_at s o)
-    by Ended = ap (λ (k : Keys). reading (found End place) k) front_all
+    by : (x : Option ℕ) → step_from s html checks keys place x ≡ fronted keys (step_from s html checks (padded keys) place x)
+    by (Some o) = front_key (key_at s o)
+    by None = ap (λ (k : Keys). reading (found None place) k) front_all
 
 -- The state is good exactly if the iterator's is, and the tables hold its keys.
 good_by : (a h : Bool) → h ≡ true → (f : Bool) → ((a && h) && f) ≡ ((a && (a && (a && a))) && f)
@@ -148,7 +145,7 @@ module _ (s : List ℕ) (st : IterState) (ls : length st.starts ≤ capacity) (l
       by true h = sym (next_bad s (whole_of st) (sym (whole_good h) ∙ bad))
       by false h = refl
 
-    pub bad_answer : (whole_next s st).answer ≡ BadState
+    pub bad_answer : (whole_next s st).answer ≡ Some (Err BadState)
     unfolding leaves bad_reading
     bad_answer = ap (λ (y : Step). y.answer) whole_bad
 
@@ -199,40 +196,40 @@ module _ (s : List ℕ) (place : Place) (html checks : Bool) (starts ends hashes
   abbrev next : Reading
   next = step_of s html checks (keys_lent starts ends hashes count) place
 
-  module _ (ls : length starts ≤ capacity) (le : length ends ≤ capacity) (lh : length hashes ≤ capacity) (good : state_good s stood ≡ true) (r : Stepped) (starts' ends' hashes' : List ℕ) (e : taken r starts' ends' hashes' count ≡ taken_on (keys_lent starts ends hashes count) next) where
+  module _ (ls : length starts ≤ capacity) (le : length ends ≤ capacity) (lh : length hashes ≤ capacity) (good : state_good s stood ≡ true) (r : Option Advance) (starts' ends' hashes' : List ℕ) (e : taken r starts' ends' hashes' count ≡ taken_on (keys_lent starts ends hashes count) next) where
     by_holds : (t : Bool) → holds starts ends hashes next.keys.count ≡ t → taken r starts' ends' hashes' count ≡ pick t (Took next) (Short (keys_lent starts ends hashes count))
     unfolding taken_on
     by_holds t h = e ∙ rw h
 
-    is_made : (o : Advance) → r ≡ Made o → (holds starts ends hashes next.keys.count ≡ true) × (advanced o starts' ends' hashes' ≡ next)
+    is_made : (o : Advance) → r ≡ Some o → (holds starts ends hashes next.keys.count ≡ true) × (advanced o starts' ends' hashes' ≡ next)
     is_made o m = by (holds starts ends hashes next.keys.count) refl where
       by : (t : Bool) → holds starts ends hashes next.keys.count ≡ t → (t ≡ true) × (advanced o starts' ends' hashes' ≡ next)
       by true h =
-          let w : taken r starts' ends' hashes' count ≡ Took (advanced o starts' ends' hashes') = ap (λ (x : Stepped). taken x starts' ends' hashes' count) m in
+          let w : taken r starts' ends' hashes' count ≡ Took (advanced o starts' ends' hashes') = ap (λ (x : Option Advance). taken x starts' ends' hashes' count) m in
           let z = by_holds true h in
           (refl, cc)
       by false h =
-          let w : taken r starts' ends' hashes' count ≡ Took (advanced o starts' ends' hashes') = ap (λ (x : Stepped). taken x starts' ends' hashes' count) m in
+          let w : taken r starts' ends' hashes' count ≡ Took (advanced o starts' ends' hashes') = ap (λ (x : Option Advance). taken x starts' ends' hashes' count) m in
           let z = by_holds false h in
           let n : ◌≡◌ {A = ℕ} 0 1 = cc in
           absurd (omega arith)
 
-    is_short : r ≡ LendMore → (holds starts ends hashes next.keys.count ≡ false) × (starts' ≡ starts) × (ends' ≡ ends) × (hashes' ≡ hashes)
+    is_short : r ≡ None → (holds starts ends hashes next.keys.count ≡ false) × (starts' ≡ starts) × (ends' ≡ ends) × (hashes' ≡ hashes)
     is_short m = by (holds starts ends hashes next.keys.count) refl where
       by : (t : Bool) → holds starts ends hashes next.keys.count ≡ t → (t ≡ false) × (starts' ≡ starts) × (ends' ≡ ends) × (hashes' ≡ hashes)
       by true h =
-          let w : taken r starts' ends' hashes' count ≡ Short (keys_lent starts' ends' hashes' count) = ap (λ (x : Stepped). taken x starts' ends' hashes' count) m in
+          let w : taken r starts' ends' hashes' count ≡ Short (keys_lent starts' ends' hashes' count) = ap (λ (x : Option Advance). taken x starts' ends' hashes' count) m in
           let z = by_holds true h in
           let n : ◌≡◌ {A = ℕ} 0 1 = cc in
           absurd (omega arith)
       by false h =
-          let w : taken r starts' ends' hashes' count ≡ Short (keys_lent starts' ends' hashes' count) = ap (λ (x : Stepped). taken x starts' ends' hashes' count) m in
+          let w : taken r starts' ends' hashes' count ≡ Short (keys_lent starts' ends' hashes' count) = ap (λ (x : Option Advance). taken x starts' ends' hashes' count) m in
           let z = by_holds false h in
           let q : keys_lent starts' ends' hashes' count ≡ keys_lent starts ends hashes count = cc in
           (refl, ap (λ (k : Keys). k.starts) q, ap (λ (k : Keys). k.ends) q, ap (λ (k : Keys). k.hashes) q)
 
     -- it was taken: the answer, what is left, and that is good again
-    module _ (o : Advance) (m : r ≡ Made o) where
+    module _ (o : Advance) (m : r ≡ Some o) where
       pub made_held : needs_more s stood ≡ false
       unfolding keys_of
       made_held = good_needs s stood ls le lh good next refl ∙ ap not (is_made o m).0
@@ -274,7 +271,7 @@ module _ (s : List ℕ) (place : Place) (html checks : Bool) (starts ends hashes
       made_hashes = ap (λ (x : Reading). length x.keys.hashes) (is_made o m).1 ∙ kept.hashes
 
     -- it was not: a place is lacking, and nothing has changed
-    module _ (m : r ≡ LendMore) where
+    module _ (m : r ≡ None) where
       pub more_needs : needs_more s stood ≡ true
       unfolding keys_of
       more_needs = good_needs s stood ls le lh good next refl ∙ ap not (is_short m).0

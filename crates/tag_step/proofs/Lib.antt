@@ -1,5 +1,4 @@
 pub mod Paths
-pub mod Zeros
 pub mod Whole
 pub mod Ways
 pub mod Progress

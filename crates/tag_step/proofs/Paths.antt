@@ -1,56 +1,30 @@
 -- What each definition of specs/Read and specs/Next is, for each way that the code can go: a law for each `return`.
 use Prim.Native.Nat.{ℕ, ◌+◌, ◌≤◌, ◌<◌}
-use mathlib.Core.Path.{◌≡◌, refl, sym, ◌∙◌}
+use mathlib.Core.Path.{◌≡◌, sym, ◌∙◌}
 use mathlib.Core.Bool.{Bool, true, false}
 use mathlib.Core.List.{List}
 use lib.ListN.{length, get_or}
-use lib.Dec.{eqb, ltb}
-use borrow.Author.Tests.{lt-ltb, le-ltb, le-leb, lt-leb, eq-eqb, ne_eqb}
+use borrow.Author.Tests.{lt-ltb, le-ltb, le-leb, eq-eqb}
+use Rattle.std.proofs.Common.{Some, None, Ok, Err}
 use Rattle.scan.specs.First.{first_from}
 use Rattle.scan.specs.Bytes.{is_space, not_space, ends_key, is_byte}
 use Rattle.tag_step.specs.declared.Span.{Span}
-use Rattle.tag_step.specs.declared.Place.TheVariants.{Done, Next, SkipValue, SkipEqValue}
-use Rattle.tag_step.specs.declared.Start.TheVariants.{From, Ended}
-use Rattle.tag_step.specs.declared.KeyRead.TheVariants.{NoKey, Bare, Valued}
-use Rattle.tag_step.specs.declared.Answer.TheVariants.{Unquoted, ExpectedValue, UnquotedValue, ExpectedQuote}
-use Rattle.tag_step.specs.Read.{span, found, is_at, is_quote, skip_to, skip_of, recover_of, key_eq, key_to, key_from, key_at, quoted, closed_of, quoted_to, quoted_of, unquoted_to, other_of, value_by, value_from, value_at}
-use Rattle.tag_step.specs.Next.{place_at, place_good}
+use Rattle.tag_step.specs.declared.Place.TheVariants.{Done, Next, SkipValue}
+use Rattle.tag_step.specs.declared.KeyRead.TheVariants.{Bare, Valued}
+use Rattle.tag_step.specs.declared.Attr.TheVariants.{Unquoted}
+use Rattle.tag_step.specs.declared.AttrError.TheVariants.{ExpectedValue, UnquotedValue, ExpectedQuote}
+use Rattle.tag_step.specs.Read.{span, found, is_at, is_quote, recover_of, key_eq, key_to, key_from, key_at, closed_of, quoted_to, quoted_of, unquoted_to, other_of, value_by, value_from, value_at}
 
--- quotes
+-- recover_of
 
-pub quote_double : (b : ℕ) → b ≡ 34 → true ≡ is_quote b
-unfolding is_quote
-quote_double b e = rw (eq-eqb b 34 e)
-
-pub quote_single : (b : ℕ) → (b ≡ 34 → ⊥) → eqb b 39 ≡ is_quote b
-unfolding is_quote
-quote_single b n = rw (ne_eqb b 34 n)
-
--- skips
-
-module _ (s : List ℕ) (o w : ℕ) (here : w ≡ first_from is_space s o) where
-  pub skip_from_lem : w < length s → From w ≡ skip_of s o
-  unfolding skip_of skip_to
-  skip_from_lem h = rw (sym here, lt-ltb w (length s) h)
-
-  pub skip_ended : length s ≤ w → Ended ≡ skip_of s o
-  unfolding skip_of skip_to
-  skip_ended h = rw (sym here, le-ltb w (length s) h)
-
--- recoverOf
-
-pub next_from : (s : List ℕ) (o : ℕ) → o ≤ length s → From o ≡ recover_of s (Next o)
+pub next_from : (s : List ℕ) (o : ℕ) → o ≤ length s → Some o ≡ recover_of s (Next o)
 unfolding recover_of
 next_from s o h = rw (le-leb o (length s) h)
-
-pub next_ended : (s : List ℕ) (o : ℕ) → length s < o → Ended ≡ recover_of s (Next o)
-unfolding recover_of
-next_ended s o h = rw (lt-leb o (length s) h)
 
 -- key_at
 
 module _ (s : List ℕ) (from start : ℕ) (a : start ≡ first_from not_space s from) where
-  pub key_none : length s ≤ start → NoKey ≡ key_at s from
+  pub key_none : length s ≤ start → None ≡ key_at s from
   unfolding key_at key_from
   key_none h = rw (sym a, le-ltb start (length s) h)
 
@@ -59,30 +33,18 @@ module _ (s : List ℕ) (from start : ℕ) (a : start ≡ first_from not_space s
     unfolding key_at key_from key_to
     key_is = rw (sym a, lt-ltb start (length s) in-tag, sym b, sym d)
 
-    pub key_end : length s ≤ at → Bare (span start end) at ≡ key_at s from
+    pub key_end : length s ≤ at → Some (Bare (span start end) at) ≡ key_at s from
     unfolding key_eq is_at
     key_end h = sym (key_is ∙ rw (le-ltb at (length s) h))
 
-    pub key_valued : at < length s → get_or s at 0 ≡ 61 → Valued (span start end) at ≡ key_at s from
+    pub key_valued : at < length s → get_or s at 0 ≡ 61 → Some (Valued (span start end) at) ≡ key_at s from
     unfolding key_eq is_at
     key_valued h e = sym (key_is ∙ rw (lt-ltb at (length s) h, eq-eqb (get_or s at 0) 61 e))
 
-    pub key_bare : at < length s → (get_or s at 0 ≡ 61 → ⊥) → Bare (span start end) at ≡ key_at s from
-    unfolding key_eq is_at
-    key_bare h e = sym (key_is ∙ rw (lt-ltb at (length s) h, ne_eqb (get_or s at 0) 61 e))
-
--- quotedOf
-
-pub closed_double : (q : ℕ) (key value : Span) → q ≡ 34 → closed_of 34 key value ≡ closed_of q key value
-closed_double q key value e = rw e
-
--- whatever is no `"` is answered as `'`
-pub closed_single : (q : ℕ) (key value : Span) → (q ≡ 34 → ⊥) → closed_of 39 key value ≡ closed_of q key value
-unfolding closed_of quoted
-closed_single q key value n = rw (ne_eqb q 34 n)
+-- quoted_of
 
 module _ (s : List ℕ) (q : ℕ) (key : Span) (a e : ℕ) (here : e ≡ first_from (is_byte q) s a) where
-  pub quoted_open : length s ≤ e → found (ExpectedQuote (length s) q) Done ≡ quoted_of s q key a
+  pub quoted_open : length s ≤ e → found (Some (Err (ExpectedQuote (length s) q))) Done ≡ quoted_of s q key a
   unfolding quoted_of quoted_to
   quoted_open h = rw (sym here, le-ltb e (length s) h)
 
@@ -93,7 +55,7 @@ module _ (s : List ℕ) (q : ℕ) (key : Span) (a e : ℕ) (here : e ≡ first_f
 -- value_at
 
 module _ (s : List ℕ) (html : Bool) (key : Span) (eq v : ℕ) (a : v ≡ first_from not_space s (eq + 1)) where
-  pub value_none : length s ≤ v → found (ExpectedValue (length s)) Done ≡ value_at s html key eq
+  pub value_none : length s ≤ v → found (Some (Err (ExpectedValue (length s)))) Done ≡ value_at s html key eq
   unfolding value_at value_from
   value_none h = rw (sym a, le-ltb v (length s) h)
 
@@ -107,35 +69,10 @@ module _ (s : List ℕ) (html : Bool) (key : Span) (eq v : ℕ) (a : v ≡ first
     value_quoted q = sym (value_is ∙ rw q)
 
     module _ (other : is_quote (get_or s v 0) ≡ false) where
-      pub value_unquoted : html ≡ true → (e : ℕ) → e ≡ first_from is_space s v → found (Unquoted key (span v e)) (Next e) ≡ value_at s html key eq
+      pub value_unquoted : html ≡ true → (e : ℕ) → e ≡ first_from is_space s v → found (Some (Ok (Unquoted key (span v e)))) (Next e) ≡ value_at s html key eq
       unfolding value_by other_of unquoted_to
       value_unquoted on e b = sym (value_is ∙ rw (other, on, sym b))
 
-      pub value_bad : html ≡ false → found (UnquotedValue v) (SkipValue v) ≡ value_at s html key eq
+      pub value_bad : html ≡ false → found (Some (Err (UnquotedValue v))) (SkipValue v) ≡ value_at s html key eq
       unfolding value_by other_of
       value_bad off = sym (value_is ∙ rw (other, off))
-
--- placeAt
-
-pub place_next : (s : List ℕ) (at : ℕ) → at < length s → Next at ≡ place_at s at
-unfolding place_at
-place_next s at h = rw (lt-ltb at (length s) h)
-
-pub place_done : (s : List ℕ) (at : ℕ) → length s ≤ at → Done ≡ place_at s at
-unfolding place_at
-place_done s at h = rw (le-ltb at (length s) h)
-
--- placeGood
-
-module _ (s : List ℕ) (o : ℕ) where
-  pub skip_inside : ltb o (length s) ≡ place_good s (SkipValue o)
-  unfolding place_good
-  skip_inside = refl
-
-  pub eq_outside : length s ≤ o → false ≡ place_good s (SkipEqValue o)
-  unfolding place_good is_at
-  eq_outside h = rw (le-ltb o (length s) h)
-
-  pub eq_inside : o < length s → eqb (get_or s o 0) 61 ≡ place_good s (SkipEqValue o)
-  unfolding place_good is_at
-  eq_inside h = rw (lt-ltb o (length s) h)

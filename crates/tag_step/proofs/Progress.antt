@@ -8,16 +8,15 @@ use native.Mathlib.Omega.{arith}
 use lib.ListN.{length, get_or}
 use lib.Dec.{ltb, leb}
 use borrow.Author.Tests.{ltb-true, lt-ltb}
+use Rattle.std.proofs.Common.{Result, Ok, Err, Option, Some, None}
 use Rattle.scan.specs.First.{first_from}
 use Rattle.scan.specs.Bytes.{is_space, not_space, is_byte}
 use Rattle.scan.proofs.Laws.{first, picks}
-use Rattle.tag_keys.specs.declared.Checked.{Checked}
-use Rattle.tag_keys.specs.declared.Checked.TheVariants.{Fresh, Same, Full}
+use Rattle.tag_keys.specs.declared.KeyRefusal.{KeyRefusal}
+use Rattle.tag_keys.specs.declared.KeyRefusal.TheVariants.{Same, Full}
 use Rattle.tag_step.specs.declared.Span.{Span}
 use Rattle.tag_step.specs.declared.Place.{Place}
 use Rattle.tag_step.specs.declared.Place.TheVariants.{Done, Next, SkipValue, SkipEqValue}
-use Rattle.tag_step.specs.declared.Start.{Start}
-use Rattle.tag_step.specs.declared.Start.TheVariants.{From, Ended}
 use Rattle.tag_step.specs.declared.Found.{Found}
 use Rattle.tag_step.specs.Read.{is_at, skip_to, skip_of, recover_of, closed_of, value_at}
 use Rattle.tag_step.specs.Next.{Keys, Reading, place_at, bare_by, bare_to, valued_by, valued_to, read_at, place_good}
@@ -55,17 +54,17 @@ module _ (s : List ℕ) (o : ℕ) where
       (λ e i q m b. let w = first is_space s v (omega arith) in (omega (arith, f.ahead, w.ahead), omega (arith, w.inside)))
       (λ i q m. (omega (arith, f.ahead), i))
 
-  valued_after : (html : Bool) (key : Span) (eq : ℕ) (c : Checked) → o < eq → is_at s 61 eq ≡ true → After s o (valued_by s html key eq c).place
+  valued_after : (html : Bool) (key : Span) (eq : ℕ) (c : Result ℕ KeyRefusal) → o < eq → is_at s 61 eq ≡ true → After s o (valued_by s html key eq c).place
   unfolding valued_by After
-  valued_after html key eq (Fresh n) h a = value_after html key eq h (at_in s 61 eq a)
-  valued_after html key eq (Same p) h a = (h, a)
-  valued_after html key eq Full h a = tt
+  valued_after html key eq (Ok n) h a = value_after html key eq h (at_in s 61 eq a)
+  valued_after html key eq (Err (Same p)) h a = (h, a)
+  valued_after html key eq (Err Full) h a = tt
 
-  bare_after : (key : Span) (at : ℕ) (c : Checked) → o < at → After s o (bare_by s key at c).place
+  bare_after : (key : Span) (at : ℕ) (c : Result ℕ KeyRefusal) → o < at → After s o (bare_by s key at c).place
   unfolding bare_by After
-  bare_after key at (Fresh n) h = place_after at h
-  bare_after key at (Same p) h = place_after at h
-  bare_after key at Full h = tt
+  bare_after key at (Ok n) h = place_after at h
+  bare_after key at (Err (Same p)) h = place_after at h
+  bare_after key at (Err Full) h = tt
 
 -- A step from o leaves a place past o.
 pub read_forward : (s : List ℕ) (html checks : Bool) (keys : Keys) (o : ℕ) → o ≤ length s → After s o (read_at s html checks keys o).place
@@ -79,9 +78,9 @@ read_forward s html checks keys o h =
 
 -- where reading goes on then lies past o
 
-unfoldable pub StartPast : ℕ → ℕ → Start → Type 0
-StartPast l o (From w) = (o < w) × (w ≤ l)
-StartPast l o Ended = Unit {0}
+unfoldable pub StartPast : ℕ → ℕ → Option ℕ → Type 0
+StartPast l o (Some w) = (o < w) × (w ≤ l)
+StartPast l o None = Unit {0}
 
 skip_past : (s : List ℕ) (o x : ℕ) → o < x → x < length s → StartPast (length s) o (skip_of s x)
 unfolding skip_of skip_to StartPast

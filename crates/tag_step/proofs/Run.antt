@@ -7,15 +7,13 @@ use mathlib.Core.List.{List, [], ◌∷◌}
 use native.Mathlib.Nat.{add-suc, add-zero, suc-add}
 use native.Mathlib.Omega.{arith}
 use lib.ListN.{length}
+use Rattle.std.proofs.Common.{Option, Some, None}
 use Rattle.scan.specs.First.{first_from}
 use Rattle.scan.specs.Bytes.{not_space}
 use Rattle.scan.proofs.Laws.{past}
 use Rattle.tag_step.specs.declared.Place.{Place}
 use Rattle.tag_step.specs.declared.Place.TheVariants.{Next}
-use Rattle.tag_step.specs.declared.Start.{Start}
-use Rattle.tag_step.specs.declared.Start.TheVariants.{From, Ended}
-use Rattle.tag_step.specs.declared.Answer.{Answer}
-use Rattle.tag_step.specs.declared.Answer.TheVariants.{End}
+use Rattle.tag_step.specs.Answer.{Answer}
 use Rattle.tag_step.specs.declared.IterState.{IterState}
 use Rattle.tag_step.specs.declared.Step.{Step}
 use Rattle.tag_step.specs.Read.{recover_of}
@@ -29,12 +27,12 @@ use Rattle.tag_step.proofs.Good.{Sized, next_stays_good, next_sized, opened_size
 -- The three forms
 
 -- over places, and over where reading goes on
-resumes_by : (n : ℕ) (s : List ℕ) (html checks : Bool) (keys : Keys) (place : Place) (x : Start) → ((keys : Keys) (place : Place) → run_lent n s html checks keys place ≡ run_from n s html checks keys (recover_of s place)) →
+resumes_by : (n : ℕ) (s : List ℕ) (html checks : Bool) (keys : Keys) (place : Place) (x : Option ℕ) → ((keys : Keys) (place : Place) → run_lent n s html checks keys place ≡ run_from n s html checks keys (recover_of s place)) →
     let r = step_from s html checks keys place x in
     cons_unless (is_end r.answer) r.answer (run_lent n s html checks r.keys r.place) ≡ run_from (suc n) s html checks keys x
 unfolding run_from step_from is_end cons_unless
-resumes_by n s html checks keys place Ended later = refl
-resumes_by n s html checks keys place (From o) later =
+resumes_by n s html checks keys place None later = refl
+resumes_by n s html checks keys place (Some o) later =
     let r = read_at s html checks keys o in
     ap (cons_unless (is_end r.answer) r.answer) (later r.keys r.place)
 
@@ -79,66 +77,66 @@ cons_most n false a more h = omega arith
 -- What is left
 
 -- the bytes that are left
-abbrev pub left : ℕ → Start → ℕ
-left l (From o) = l - o
-left l Ended = 0
+abbrev pub left : ℕ → Option ℕ → ℕ
+left l (Some o) = l - o
+left l None = 0
 
-pub left_all : (l : ℕ) (x : Start) → left l x ≤ l
-left_all l (From o) = omega arith
-left_all l Ended = omega arith
+pub left_all : (l : ℕ) (x : Option ℕ) → left l x ≤ l
+left_all l (Some o) = omega arith
+left_all l None = omega arith
 
-left_falls : (l o n : ℕ) (x : Start) → StartPast l o x → l - o ≤ suc n → left l x ≤ n
+left_falls : (l o n : ℕ) (x : Option ℕ) → StartPast l o x → l - o ≤ suc n → left l x ≤ n
 unfolding StartPast
-left_falls l o n (From w) a h = omega arith
-left_falls l o n Ended a h = omega arith
+left_falls l o n (Some w) a h = omega arith
+left_falls l o n None a h = omega arith
 
-past_in : (l o : ℕ) (x : Start) → StartPast l o x → StartIn l x
+past_in : (l o : ℕ) (x : Option ℕ) → StartPast l o x → StartIn l x
 unfolding StartPast StartIn
-past_in l o (From w) a = a.1
-past_in l o Ended a = tt
+past_in l o (Some w) a = a.1
+past_in l o None a = tt
 
 -- at the tag's end there is no key
-at_end : (s : List ℕ) (html checks : Bool) (keys : Keys) (o : ℕ) → length s ≤ o → (read_at s html checks keys o).answer ≡ End
+at_end : (s : List ℕ) (html checks : Bool) (keys : Keys) (o : ℕ) → length s ≤ o → (read_at s html checks keys o).answer ≡ None
 unfolding read_at read_key
 at_end s html checks keys o h =
     let f = past not_space s o h in
     rw (sym (key_none s o (first_from not_space s o) refl (omega arith)))
 
 -- no more answers there, and none after the end
-pub run_end : (n : ℕ) (s : List ℕ) (html checks : Bool) (keys : Keys) (o : ℕ) → length s ≤ o → run_from n s html checks keys (From o) ≡ []
+pub run_end : (n : ℕ) (s : List ℕ) (html checks : Bool) (keys : Keys) (o : ℕ) → length s ≤ o → run_from n s html checks keys (Some o) ≡ []
 unfolding run_from is_end cons_unless
 run_end zero s html checks keys o h = refl
 run_end (suc n) s html checks keys o h = rw (at_end s html checks keys o h)
 
-pub run_ended : (n : ℕ) (s : List ℕ) (html checks : Bool) (keys : Keys) → run_from n s html checks keys Ended ≡ []
+pub run_ended : (n : ℕ) (s : List ℕ) (html checks : Bool) (keys : Keys) → run_from n s html checks keys None ≡ []
 unfolding run_from
 run_ended zero s html checks keys = refl
 run_ended (suc n) s html checks keys = refl
 
-one_more : (n : ℕ) (s : List ℕ) (html checks : Bool) (keys : Keys) (x : Start) → StartIn (length s) x → left (length s) x ≤ n → run_from (suc n) s html checks keys x ≡ run_from n s html checks keys x
+one_more : (n : ℕ) (s : List ℕ) (html checks : Bool) (keys : Keys) (x : Option ℕ) → StartIn (length s) x → left (length s) x ≤ n → run_from (suc n) s html checks keys x ≡ run_from n s html checks keys x
 unfolding run_from is_end cons_unless StartIn
-one_more zero s html checks keys (From o) i h = rw (at_end s html checks keys o (omega arith))
-one_more (suc n) s html checks keys (From o) i h =
+one_more zero s html checks keys (Some o) i h = rw (at_end s html checks keys o (omega arith))
+one_more (suc n) s html checks keys (Some o) i h =
     let r = read_at s html checks keys o in
     let p = resume_past s o r.place (read_forward s html checks keys o i) in
     ap (cons_unless (is_end r.answer) r.answer) (one_more n s html checks r.keys (recover_of s r.place) (past_in (length s) o (recover_of s r.place) p) (left_falls (length s) o n (recover_of s r.place) p h))
-one_more zero s html checks keys Ended i h = refl
-one_more (suc n) s html checks keys Ended i h = refl
+one_more zero s html checks keys None i h = refl
+one_more (suc n) s html checks keys None i h = refl
 
 -- the steps that are left, at most: one for each byte, and one that finds no more
-abbrev pub todo : ℕ → Start → ℕ
-todo l (From o) = suc (l - o)
-todo l Ended = 0
+abbrev pub todo : ℕ → Option ℕ → ℕ
+todo l (Some o) = suc (l - o)
+todo l None = 0
 
-todo_past : (l o : ℕ) (x : Start) → StartPast l o x → todo l x < suc (l - o)
+todo_past : (l o : ℕ) (x : Option ℕ) → StartPast l o x → todo l x < suc (l - o)
 unfolding StartPast
-todo_past l o (From w) h = omega (arith, h.0, h.1)
-todo_past l o Ended h = omega arith
+todo_past l o (Some w) h = omega (arith, h.0, h.1)
+todo_past l o None h = omega arith
 
-todo_by : (s : List ℕ) (html checks : Bool) (keys : Keys) (place : Place) (x : Start) → recover_of s place ≡ x → is_end (step_from s html checks keys place x).answer ≡ false → todo (length s) (recover_of s (step_from s html checks keys place x).place) < todo (length s) x
+todo_by : (s : List ℕ) (html checks : Bool) (keys : Keys) (place : Place) (x : Option ℕ) → recover_of s place ≡ x → is_end (step_from s html checks keys place x).answer ≡ false → todo (length s) (recover_of s (step_from s html checks keys place x).place) < todo (length s) x
 unfolding step_from is_end
-todo_by s html checks keys place Ended e z = absurd (false≢true (sym z))
-todo_by s html checks keys place (From o) e z =
+todo_by s html checks keys place None e z = absurd (false≢true (sym z))
+todo_by s html checks keys place (Some o) e z =
     let r = read_at s html checks keys o in
     todo_past (length s) o (recover_of s r.place) (resume_past s o r.place (read_forward s html checks keys o (starts_in s place o e)))
 
@@ -148,7 +146,7 @@ unfolding step_of
 todo_falls s html checks keys place = todo_by s html checks keys place (recover_of s place) refl
 
 -- A budget of the bytes that are left is enough.
-pub from_more : (j n : ℕ) (s : List ℕ) (html checks : Bool) (keys : Keys) (x : Start) → StartIn (length s) x → left (length s) x ≤ n → run_from (n + j) s html checks keys x ≡ run_from n s html checks keys x
+pub from_more : (j n : ℕ) (s : List ℕ) (html checks : Bool) (keys : Keys) (x : Option ℕ) → StartIn (length s) x → left (length s) x ≤ n → run_from (n + j) s html checks keys x ≡ run_from n s html checks keys x
 from_more zero n s html checks keys x i h = rw add-zero
 from_more (suc j) n s html checks keys x i h = rw add-suc (one_more (n + j) s html checks keys x i (omega arith) ∙ from_more j n s html checks keys x i h)
 

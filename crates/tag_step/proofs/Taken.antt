@@ -5,20 +5,17 @@ use mathlib.Core.Bool.{Bool, true, false}
 use mathlib.Core.List.{List}
 use native.Mathlib.Omega.{arith}
 use lib.ListN.{length, set}
+use Rattle.std.proofs.Common.{Result, Ok, Err, Option, Some, None}
 use Rattle.scan.specs.First.{pick}
 use Rattle.scan.specs.Bytes.{part}
-use Rattle.tag_keys.specs.declared.Checked.{Checked}
-use Rattle.tag_keys.specs.declared.Checked.TheVariants.{Fresh, Same, Full}
+use Rattle.tag_keys.specs.declared.KeyRefusal.{KeyRefusal}
+use Rattle.tag_keys.specs.declared.KeyRefusal.TheVariants.{Same, Full}
 use Rattle.tag_keys.specs.Hash.{hash_of}
 use Rattle.tag_keys.specs.Keys.{holds, KeysIn, KeyRoom, hash_for, checked_of, recorded_in, written_by, count_by}
 use Rattle.tag_keys.proofs.Laws.{facts_hold, KeysAfter, keys_held, room_holds, written_length}
 use Rattle.tag_step.specs.declared.Span.{Span}
 use Rattle.tag_step.specs.declared.Place.{Place}
-use Rattle.tag_step.specs.declared.Start.{Start}
-use Rattle.tag_step.specs.declared.Start.TheVariants.{From, Ended}
 use Rattle.tag_step.specs.declared.Advance.{Advance}
-use Rattle.tag_step.specs.declared.Stepped.{Stepped}
-use Rattle.tag_step.specs.declared.Stepped.TheVariants.{Made, LendMore}
 use Rattle.tag_step.specs.Read.{recover_of}
 use Rattle.tag_step.specs.Next.{Keys, Reading, keys_lent, advanced, check_of, kept_by, bare_to, bare_of, valued_to, valued_of, step_from, step_of}
 use Rattle.tag_step.specs.Lent.{Took, Short, taken, taken_on}
@@ -26,21 +23,21 @@ use Rattle.tag_step.proofs.Whole.{starts_in}
 use Rattle.tag_step.proofs.Ways.{step_ways}
 
 -- what stands in a table after each verdict
-module _ (checks : Bool) (v : Checked) (t : List ℕ) (count x : ℕ) where
-  pub written_fresh : (u : List ℕ) {n : ℕ} → v ≡ Fresh n → u ≡ recorded_in checks t count x → u ≡ written_by checks v t count x
+module _ (checks : Bool) (v : Result ℕ KeyRefusal) (t : List ℕ) (count x : ℕ) where
+  pub written_fresh : (u : List ℕ) {n : ℕ} → v ≡ Ok n → u ≡ recorded_in checks t count x → u ≡ written_by checks v t count x
   unfolding written_by
   written_fresh u e r = r ∙ rw e
 
-  pub written_same : (p : ℕ) → v ≡ Same p → t ≡ written_by checks v t count x
+  pub written_same : (p : ℕ) → v ≡ Err (Same p) → t ≡ written_by checks v t count x
   unfolding written_by
   written_same p e = rw e
 
-  pub written_full : v ≡ Full → t ≡ written_by checks v t count x
+  pub written_full : v ≡ Err Full → t ≡ written_by checks v t count x
   unfolding written_by
   written_full e = rw e
 
 -- and in the table of hashes after a new key
-pub written_hash : (s : List ℕ) (checks : Bool) (key : Span) (v : Checked) (hashes : List ℕ) (count h : ℕ) (u : List ℕ) {n : ℕ} → v ≡ Fresh n → h ≡ hash_for s checks key.start key.end → u ≡ recorded_in checks hashes count h → u ≡ written_by checks v hashes count (hash_of (part s key.start key.end))
+pub written_hash : (s : List ℕ) (checks : Bool) (key : Span) (v : Result ℕ KeyRefusal) (hashes : List ℕ) (count h : ℕ) (u : List ℕ) {n : ℕ} → v ≡ Ok n → h ≡ hash_for s checks key.start key.end → u ≡ recorded_in checks hashes count h → u ≡ written_by checks v hashes count (hash_of (part s key.start key.end))
 unfolding hash_for
 written_hash s true key v hashes count h u e own r = written_fresh true v hashes count (hash_of (part s key.start key.end)) u e (r ∙ ap (set hashes count) own)
 written_hash s false key v hashes count h u e own r = written_fresh false v hashes count (hash_of (part s key.start key.end)) u e r
@@ -59,7 +56,7 @@ pub took_same : (keys : Keys) (s : List ℕ) → KeysIn keys.starts keys.ends ke
 took_same keys s i x y e n = took keys x y e (rw n (facts_hold keys.starts keys.ends keys.hashes keys.count i.placed))
 
 -- a new key that is not held
-module _ (s : List ℕ) (html checks : Bool) (starts ends hashes : List ℕ) (count : ℕ) (key : Span) (at n : ℕ) (fresh : checked_of s checks starts ends count key.start key.end ≡ Fresh n) (short : holds starts ends hashes n ≡ false) where
+module _ (s : List ℕ) (html checks : Bool) (starts ends hashes : List ℕ) (count : ℕ) (key : Span) (at n : ℕ) (fresh : checked_of s checks starts ends count key.start key.end ≡ Ok n) (short : holds starts ends hashes n ≡ false) where
   pub valued_untaken : Short (keys_lent starts ends hashes count) ≡ taken_on (keys_lent starts ends hashes count) (valued_of s html checks (keys_lent starts ends hashes count) key at)
   unfolding valued_of valued_to kept_by count_by check_of
   valued_untaken = untaken (keys_lent starts ends hashes count) (valued_of s html checks (keys_lent starts ends hashes count) key at) (rw (fresh, short))
@@ -90,11 +87,11 @@ module _ (s : List ℕ) (checks : Bool) (keys : Keys) (i : KeysIn keys.starts ke
   held_all : Held s keys keys
   held_all = record { inside = i; starts = refl; ends = refl; hashes = refl }
 
-  held_by : (key : Span) (c : Checked) → key.start < key.end → key.end ≤ length s → c ≡ check_of s checks keys key → holds keys.starts keys.ends keys.hashes (kept_by s checks keys key c).count ≡ true → Held s keys (kept_by s checks keys key c)
+  held_by : (key : Span) (c : Result ℕ KeyRefusal) → key.start < key.end → key.end ≤ length s → c ≡ check_of s checks keys key → holds keys.starts keys.ends keys.hashes (kept_by s checks keys key c).count ≡ true → Held s keys (kept_by s checks keys key c)
   unfolding check_of kept_by
   held_by key c lt le e h =
       record {
-        inside = subst (λ (v : Checked). holds keys.starts keys.ends keys.hashes (count_by v keys.count) ≡ true → KeysAfter checks v keys.starts keys.ends keys.hashes keys.count key.start key.end s) (sym e) (keys_held s keys.starts keys.ends keys.hashes keys.count key.start key.end i checks lt le) h;
+        inside = subst (λ (v : Result ℕ KeyRefusal). holds keys.starts keys.ends keys.hashes (count_by v keys.count) ≡ true → KeysAfter checks v keys.starts keys.ends keys.hashes keys.count key.start key.end s) (sym e) (keys_held s keys.starts keys.ends keys.hashes keys.count key.start key.end i checks lt le) h;
         starts = written_length checks c keys.starts keys.count key.start;
         ends = written_length checks c keys.ends keys.count key.end;
         hashes = written_length checks c keys.hashes keys.count (hash_of (part s key.start key.end));
@@ -105,11 +102,11 @@ module _ (s : List ℕ) (checks : Bool) (keys : Keys) (i : KeysIn keys.starts ke
       holds keys.starts keys.ends keys.hashes x.keys.count ≡ true → Held s keys x.keys
   unfolding step_of step_from bare_to valued_to
   step_keeps_held html place = by (recover_of s place) refl where
-    by : (x : Start) → recover_of s place ≡ x →
+    by : (x : Option ℕ) → recover_of s place ≡ x →
         let r = step_from s html checks keys place x in
         holds keys.starts keys.ends keys.hashes r.keys.count ≡ true → Held s keys r.keys
-    by Ended e = λ h. held_all
-    by (From o) e =
+    by None e = λ h. held_all
+    by (Some o) e =
         step_ways s html checks keys o (starts_in s place o e) (λ (x : Reading) (_ : ℕ). holds keys.starts keys.ends keys.hashes x.keys.count ≡ true → Held s keys x.keys)
         (λ e h. held_all)
         (λ key at e b m h. held_all)
@@ -121,16 +118,16 @@ module _ (s : List ℕ) (checks : Bool) (keys : Keys) (i : KeysIn keys.starts ke
   held : holds keys.starts keys.ends keys.hashes keys.count ≡ true
   held = facts_hold keys.starts keys.ends keys.hashes keys.count i.placed
 
-  kept_held : (key : Span) (c : Checked) → c ≡ check_of s checks keys key → holds keys.starts keys.ends keys.hashes (kept_by s checks keys key c).count ≡ true
+  kept_held : (key : Span) (c : Result ℕ KeyRefusal) → c ≡ check_of s checks keys key → holds keys.starts keys.ends keys.hashes (kept_by s checks keys key c).count ≡ true
   unfolding kept_by check_of
   kept_held key c e = rw e (room_holds s keys.starts keys.ends keys.hashes keys.count key.start key.end i checks r)
 
   pub step_held : (html : Bool) (place : Place) → holds keys.starts keys.ends keys.hashes (step_of s html checks keys place).keys.count ≡ true
   unfolding step_of step_from bare_to valued_to
   step_held html place = by (recover_of s place) refl where
-    by : (x : Start) → recover_of s place ≡ x → holds keys.starts keys.ends keys.hashes (step_from s html checks keys place x).keys.count ≡ true
-    by Ended e = held
-    by (From o) e =
+    by : (x : Option ℕ) → recover_of s place ≡ x → holds keys.starts keys.ends keys.hashes (step_from s html checks keys place x).keys.count ≡ true
+    by None e = held
+    by (Some o) e =
         step_ways s html checks keys o (starts_in s place o e) (λ (x : Reading) (_ : ℕ). holds keys.starts keys.ends keys.hashes x.keys.count ≡ true)
         (λ e. held)
         (λ key at e b m. held)
@@ -138,19 +135,19 @@ module _ (s : List ℕ) (checks : Bool) (keys : Keys) (i : KeysIn keys.starts ke
         (λ key eq c e b a v. kept_held key c v)
 
   -- so that lending more is never asked for
-  pub room_takes : (html : Bool) (place : Place) (r : Stepped) (starts ends hashes : List ℕ) → taken r starts ends hashes keys.count ≡ taken_on keys (step_of s html checks keys place) → taken r starts ends hashes keys.count ≡ Took (step_of s html checks keys place)
+  pub room_takes : (html : Bool) (place : Place) (r : Option Advance) (starts ends hashes : List ℕ) → taken r starts ends hashes keys.count ≡ taken_on keys (step_of s html checks keys place) → taken r starts ends hashes keys.count ≡ Took (step_of s html checks keys place)
   unfolding taken_on
   room_takes html place r starts ends hashes e = e ∙ rw (step_held html place)
 
-  pub room_made : (html : Bool) (place : Place) (r : Stepped) (o : Advance) (starts ends hashes : List ℕ) → taken r starts ends hashes keys.count ≡ taken_on keys (step_of s html checks keys place) → r ≡ Made o → advanced o starts ends hashes ≡ step_of s html checks keys place
+  pub room_made : (html : Bool) (place : Place) (r : Option Advance) (o : Advance) (starts ends hashes : List ℕ) → taken r starts ends hashes keys.count ≡ taken_on keys (step_of s html checks keys place) → r ≡ Some o → advanced o starts ends hashes ≡ step_of s html checks keys place
   room_made html place r o starts ends hashes e m =
       let z = room_takes html place r starts ends hashes e in
-      let w : taken r starts ends hashes keys.count ≡ Took (advanced o starts ends hashes) = ap (λ (x : Stepped). taken x starts ends hashes keys.count) m in
+      let w : taken r starts ends hashes keys.count ≡ Took (advanced o starts ends hashes) = ap (λ (x : Option Advance). taken x starts ends hashes keys.count) m in
       cc
 
-  pub room_never : (html : Bool) (place : Place) (r : Stepped) (starts ends hashes : List ℕ) → taken r starts ends hashes keys.count ≡ taken_on keys (step_of s html checks keys place) → r ≡ LendMore → ⊥
+  pub room_never : (html : Bool) (place : Place) (r : Option Advance) (starts ends hashes : List ℕ) → taken r starts ends hashes keys.count ≡ taken_on keys (step_of s html checks keys place) → r ≡ None → ⊥
   room_never html place r starts ends hashes e m =
       let z = room_takes html place r starts ends hashes e in
-      let w : taken r starts ends hashes keys.count ≡ Short (keys_lent starts ends hashes keys.count) = ap (λ (x : Stepped). taken x starts ends hashes keys.count) m in
+      let w : taken r starts ends hashes keys.count ≡ Short (keys_lent starts ends hashes keys.count) = ap (λ (x : Option Advance). taken x starts ends hashes keys.count) m in
       let n : ◌≡◌ {A = ℕ} 0 1 = cc in
       omega arith

@@ -6,19 +6,16 @@ use mathlib.Core.Bool.{Bool, true, false, false≢true}
 use mathlib.Core.List.{List}
 use native.Mathlib.Numerals.{add-one}
 use lib.ListN.{length}
+use Rattle.std.proofs.Common.{Option, Some, None}
 use Rattle.tag_keys.specs.Keys.{KeysIn, KeyRoom, checked_of, written_by, count_by}
 use Rattle.tag_keys.proofs.Laws.{in_table, keys_none}
 use Rattle.tag_step.specs.declared.Span.{Span}
 use Rattle.tag_step.specs.declared.Place.{Place}
 use Rattle.tag_step.specs.declared.Place.TheVariants.{Next}
-use Rattle.tag_step.specs.declared.Start.{Start}
-use Rattle.tag_step.specs.declared.Start.TheVariants.{From, Ended}
 use Rattle.tag_step.specs.declared.KeyRead.{KeyRead}
-use Rattle.tag_step.specs.declared.KeyRead.TheVariants.{NoKey, Bare, Valued}
+use Rattle.tag_step.specs.declared.KeyRead.TheVariants.{Bare, Valued}
 use Rattle.tag_step.specs.declared.Found.{Found}
 use Rattle.tag_step.specs.declared.Advance.{Advance}
-use Rattle.tag_step.specs.declared.Stepped.{Stepped}
-use Rattle.tag_step.specs.declared.Stepped.TheVariants.{Made, LendMore}
 use Rattle.tag_step.specs.declared.Step.{Step}
 use Rattle.tag_step.specs.Read.{found, recover_of, key_at}
 use Rattle.tag_step.specs.Next.{Keys, Reading, reading, keys_lent, advanced, check_of, kept_by, bare_by, bare_to, bare_of, valued_by, valued_to, valued_of, read_key, read_at, step_from, step_of, place_good, keys_of, state_good, no_keys, leaves, standing, unchecked_of, opened}
@@ -52,19 +49,19 @@ module _ (s : List ℕ) (html : Bool) (keys other : Keys) where
   off_bare key at true = refl
   off_bare key at false = refl
 
-  off_key : (k : KeyRead) → read_key s html false keys k ≡ swapped (read_key s html false other k) keys
+  off_key : (k : Option KeyRead) → read_key s html false keys k ≡ swapped (read_key s html false other k) keys
   unfolding read_key valued_of valued_to valued_by kept_by check_of checked_of written_by count_by
-  off_key NoKey = refl
-  off_key (Bare key at) = off_bare key at html
-  off_key (Valued key eq) = refl
+  off_key None = refl
+  off_key (Some (Bare key at)) = off_bare key at html
+  off_key (Some (Valued key eq)) = refl
 
   -- other tables: the same answer, the same place, and they stay
   pub off_step : (place : Place) → step_of s html false keys place ≡ swapped (step_of s html false other place) keys
   unfolding step_of step_from read_at
   off_step place = by (recover_of s place) where
-    by : (x : Start) → step_from s html false keys place x ≡ swapped (step_from s html false other place x) keys
-    by (From o) = off_key (key_at s o)
-    by Ended = refl
+    by : (x : Option ℕ) → step_from s html false keys place x ≡ swapped (step_from s html false other place x) keys
+    by (Some o) = off_key (key_at s o)
+    by None = refl
 
 standing_sized : (place : Place) (html checks : Bool) → Sized (standing place html checks)
 unfolding no_keys opened
@@ -92,13 +89,13 @@ module _ (s : List ℕ) (html : Bool) (place : Place) (stands : place_good s pla
     no_room : KeyRoom false starts ends hashes
     no_room = record { room = λ on. absurd (false≢true on) }
 
-    module _ (r : Stepped) (starts' ends' hashes' : List ℕ) (e : taken r starts' ends' hashes' 0 ≡ step_in s html false (keys_lent starts ends hashes 0) place) where
-      pub unchecked_made : (o : Advance) → r ≡ Made o → found o.answer o.place ≡ unchecked_of s html place
+    module _ (r : Option Advance) (starts' ends' hashes' : List ℕ) (e : taken r starts' ends' hashes' 0 ≡ step_in s html false (keys_lent starts ends hashes 0) place) where
+      pub unchecked_made : (o : Advance) → r ≡ Some o → found o.answer o.place ≡ unchecked_of s html place
       unchecked_made o m =
           unchecked_steps (keys_lent starts ends hashes 0) (advanced o starts' ends' hashes')
           (room_made s false (keys_lent starts ends hashes 0) none no_room html place r o starts' ends' hashes' e m)
 
-      pub unchecked_never : r ≡ LendMore → ⊥
+      pub unchecked_never : r ≡ None → ⊥
       unchecked_never m = room_never s false (keys_lent starts ends hashes 0) none no_room html place r starts' ends' hashes' e m
 
   -- the place that is left is good again

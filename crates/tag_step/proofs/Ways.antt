@@ -7,14 +7,17 @@ use mathlib.Core.List.{List}
 use lib.ListN.{length, get_or}
 use lib.Dec.{ltb}
 use borrow.Author.Tests.{lt-ltb, le-ltb, ltb-true, ltb-false}
+use Rattle.std.proofs.Common.{Result, Option, Some, None}
+use Rattle.std.specs.Prelude.{Ok, Err}
 use Rattle.scan.specs.First.{first_from, pick}
 use Rattle.scan.specs.Bytes.{is_space, not_space, is_byte}
-use Rattle.tag_keys.specs.declared.Checked.{Checked}
+use Rattle.tag_keys.specs.declared.KeyRefusal.{KeyRefusal}
 use Rattle.tag_step.specs.declared.Span.{Span}
 use Rattle.tag_step.specs.declared.Place.TheVariants.{Done, Next, SkipValue}
 use Rattle.tag_step.specs.declared.KeyRead.{KeyRead}
-use Rattle.tag_step.specs.declared.KeyRead.TheVariants.{NoKey, Bare, Valued}
-use Rattle.tag_step.specs.declared.Answer.TheVariants.{End, Unquoted, ExpectedEq, ExpectedValue, UnquotedValue, ExpectedQuote}
+use Rattle.tag_step.specs.declared.KeyRead.TheVariants.{Bare, Valued}
+use Rattle.tag_step.specs.declared.Attr.TheVariants.{Unquoted}
+use Rattle.tag_step.specs.declared.AttrError.TheVariants.{ExpectedEq, ExpectedValue, UnquotedValue, ExpectedQuote}
 use Rattle.tag_step.specs.declared.Found.{Found}
 use Rattle.tag_step.specs.Read.{span, found, is_at, is_quote, key_at, closed_of, value_at}
 use Rattle.tag_step.specs.Next.{Keys, Reading, reading, check_of, place_at, bare_to, bare_of, valued_to, valued_of, read_key, read_at}
@@ -37,11 +40,11 @@ module _ (s : List ℕ) (html : Bool) (key : Span) (eq v : ℕ) (here : v ≡ fi
   look_other l q h m = rw (sym here, lt-ltb v (length s) l, q, m)
 
   pub value_ways : (P : Found → ℕ → Type 0)
-      → (length s ≤ v → P (found (ExpectedValue (length s)) Done) v)
+      → (length s ≤ v → P (found (Some (Err (ExpectedValue (length s)))) Done) v)
       → ((e : ℕ) → v < length s → is_quote (get_or s v 0) ≡ true → e ≡ first_from (is_byte (get_or s v 0)) s (v + 1) → e < length s → P (closed_of (get_or s v 0) key (span (v + 1) e)) e)
-      → ((e : ℕ) → v < length s → is_quote (get_or s v 0) ≡ true → e ≡ first_from (is_byte (get_or s v 0)) s (v + 1) → length s ≤ e → P (found (ExpectedQuote (length s) (get_or s v 0)) Done) e)
-      → ((e : ℕ) → v < length s → is_quote (get_or s v 0) ≡ false → html ≡ true → e ≡ first_from is_space s v → P (found (Unquoted key (span v e)) (Next e)) e)
-      → (v < length s → is_quote (get_or s v 0) ≡ false → html ≡ false → P (found (UnquotedValue v) (SkipValue v)) v)
+      → ((e : ℕ) → v < length s → is_quote (get_or s v 0) ≡ true → e ≡ first_from (is_byte (get_or s v 0)) s (v + 1) → length s ≤ e → P (found (Some (Err (ExpectedQuote (length s) (get_or s v 0)))) Done) e)
+      → ((e : ℕ) → v < length s → is_quote (get_or s v 0) ≡ false → html ≡ true → e ≡ first_from is_space s v → P (found (Some (Ok (Unquoted key (span v e)))) (Next e)) e)
+      → (v < length s → is_quote (get_or s v 0) ≡ false → html ≡ false → P (found (Some (Err (UnquotedValue v))) (SkipValue v)) v)
       → P (value_at s html key eq) (look_value s html eq)
   value_ways P none closed unclosed unquoted bad = by (ltb v (length s)) refl where
     by_quote : v < length s → is_quote (get_or s v 0) ≡ true → (t : Bool) → ltb (first_from (is_byte (get_or s v 0)) s (v + 1)) (length s) ≡ t → P (value_at s html key eq) (look_value s html eq)
@@ -67,18 +70,18 @@ module _ (s : List ℕ) (html : Bool) (key : Span) (eq v : ℕ) (here : v ≡ fi
 -- a step from o: no key; a bare one in XML mode; one in HTML mode, with its verdict; one that has a value, with its verdict
 module _ (s : List ℕ) (html checks : Bool) (keys : Keys) (o : ℕ) (h : o ≤ length s) where
   pub step_ways : (P : Reading → ℕ → Type 0)
-      → (key_at s o ≡ NoKey → P (reading (found End Done) keys) (length s))
-      → ((key : Span) (at : ℕ) → key_at s o ≡ Bare key at → KeyBy (length s) o key at → html ≡ false → P (reading (found (ExpectedEq at) (place_at s at)) keys) at)
-      → ((key : Span) (at : ℕ) (c : Checked) → key_at s o ≡ Bare key at → KeyBy (length s) o key at → html ≡ true → c ≡ check_of s checks keys key → P (bare_to s checks keys key at c) at)
-      → ((key : Span) (eq : ℕ) (c : Checked) → key_at s o ≡ Valued key eq → KeyBy (length s) o key eq → is_at s 61 eq ≡ true → c ≡ check_of s checks keys key → P (valued_to s html checks keys key eq c) (look_by s html eq c))
+      → (key_at s o ≡ None → P (reading (found None Done) keys) (length s))
+      → ((key : Span) (at : ℕ) → key_at s o ≡ Some (Bare key at) → KeyBy (length s) o key at → html ≡ false → P (reading (found (Some (Err (ExpectedEq at))) (place_at s at)) keys) at)
+      → ((key : Span) (at : ℕ) (c : Result ℕ KeyRefusal) → key_at s o ≡ Some (Bare key at) → KeyBy (length s) o key at → html ≡ true → c ≡ check_of s checks keys key → P (bare_to s checks keys key at c) at)
+      → ((key : Span) (eq : ℕ) (c : Result ℕ KeyRefusal) → key_at s o ≡ Some (Valued key eq) → KeyBy (length s) o key eq → is_at s 61 eq ≡ true → c ≡ check_of s checks keys key → P (valued_to s html checks keys key eq c) (look_by s html eq c))
       → P (read_at s html checks keys o) (look_at s html checks keys o)
   unfolding read_at look_at read_key look_key KeyIn bare_of valued_of
   step_ways P none xml bare valued = by (key_at s o) refl (key_in s o h) where
-    by_mode : (key : Span) (at : ℕ) → key_at s o ≡ Bare key at → KeyBy (length s) o key at → (m : Bool) → html ≡ m → P (pick m (bare_to s checks keys key at (check_of s checks keys key)) (reading (found (ExpectedEq at) (place_at s at)) keys)) at
+    by_mode : (key : Span) (at : ℕ) → key_at s o ≡ Some (Bare key at) → KeyBy (length s) o key at → (m : Bool) → html ≡ m → P (pick m (bare_to s checks keys key at (check_of s checks keys key)) (reading (found (Some (Err (ExpectedEq at))) (place_at s at)) keys)) at
     by_mode key at e i true m = bare key at _ e i m refl
     by_mode key at e i false m = xml key at e i m
 
-    by : (k : KeyRead) → key_at s o ≡ k → KeyIn s o k → P (read_key s html checks keys k) (look_key s html checks keys k)
-    by NoKey e i = none e
-    by (Bare key at) e i = by_mode key at e i html refl
-    by (Valued key eq) e i = valued key eq _ e i.0 i.1 refl
+    by : (k : Option KeyRead) → key_at s o ≡ k → KeyIn s o k → P (read_key s html checks keys k) (look_key s html checks keys k)
+    by None e i = none e
+    by (Some (Bare key at)) e i = by_mode key at e i html refl
+    by (Some (Valued key eq)) e i = valued key eq _ e i.0 i.1 refl

@@ -1,14 +1,13 @@
 -- Key tables that a caller lends may be shorter than the capacity: places that are not lent are unused. Every rule is document
 -- 01's on the iterator that such tables are; a key that is due to be recorded past what is lent is not read, and the caller
 -- lends longer tables, with the recorded keys in their places, and goes on where it stopped.
-use Rattle.std.specs.Prelude.{ℕ, Bool, not, List, length, take}
+use Rattle.std.specs.Prelude.{ℕ, Bool, not, List, length, take, Option, Some, None}
 use Rattle.scan.specs.First.{pick}
 use Rattle.scan.specs.Lists.{pad_to}
 use Rattle.tag_keys.specs.Keys.{capacity, holds}
 use Rattle.tag_step.specs.declared.IterState.{IterState}
 use Rattle.tag_step.specs.declared.Step.{Step}
-use Rattle.tag_step.specs.declared.Stepped.{Stepped}
-use Rattle.tag_step.specs.declared.Stepped.TheVariants.{Made, LendMore}
+use Rattle.tag_step.specs.declared.Advance.{Advance}
 use Rattle.tag_step.specs.declared.Span.{Span}
 use Rattle.tag_step.specs.declared.Place.{Place}
 use Rattle.tag_step.specs.Next.{Keys, Reading, keys_lent, advanced, bare_of, valued_of, step_of, lent_state, bad_reading, leaves, next_of}
@@ -39,14 +38,14 @@ pub data Taken : Type 0 where
   Took : Reading → Taken
   Short : Keys → Taken
 
-abbrev pub taken : Stepped → (starts ends hashes : List ℕ) → ℕ → Taken
-taken (Made o) starts ends hashes count = Took (advanced o starts ends hashes)
-taken LendMore starts ends hashes count = Short (keys_lent starts ends hashes count)
+abbrev pub taken : Option Advance → (starts ends hashes : List ℕ) → ℕ → Taken
+taken (Some o) starts ends hashes count = Took (advanced o starts ends hashes)
+taken None starts ends hashes count = Short (keys_lent starts ends hashes count)
 
 -- how many keys are recorded then
-abbrev pub kept_in : Stepped → ℕ → ℕ
-kept_in (Made o) count = o.count
-kept_in LendMore count = count
+abbrev pub kept_in : Option Advance → ℕ → ℕ
+kept_in (Some o) count = o.count
+kept_in None count = count
 
 -- A step that leaves more keys than the tables hold is not taken.
 unfoldable pub taken_on : Keys → Reading → Taken

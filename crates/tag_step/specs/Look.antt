@@ -1,16 +1,14 @@
 -- How far a step looks: the last position whose byte, or whose lack of one, it has to know. Where that is below the
 -- length, the step does not turn on what may follow the tag.
-use Rattle.std.specs.Prelude.{ℕ, ◌+◌, Bool, List, length, get_or, ltb}
+use Rattle.std.specs.Prelude.{ℕ, ◌+◌, Bool, List, length, get_or, ltb, Result, Ok, Err, Option, Some, None}
 use Rattle.scan.specs.First.{first_from, pick}
 use Rattle.scan.specs.Bytes.{is_space, not_space, is_byte}
-use Rattle.tag_keys.specs.declared.Checked.{Checked}
-use Rattle.tag_keys.specs.declared.Checked.TheVariants.{Fresh, Same, Full}
+use Rattle.tag_keys.specs.declared.KeyRefusal.{KeyRefusal}
+use Rattle.tag_keys.specs.declared.KeyRefusal.TheVariants.{Same, Full}
 use Rattle.tag_step.specs.declared.IterState.{IterState}
 use Rattle.tag_step.specs.declared.Place.{Place}
-use Rattle.tag_step.specs.declared.Start.{Start}
-use Rattle.tag_step.specs.declared.Start.TheVariants.{From, Ended}
 use Rattle.tag_step.specs.declared.KeyRead.{KeyRead}
-use Rattle.tag_step.specs.declared.KeyRead.TheVariants.{NoKey, Bare, Valued}
+use Rattle.tag_step.specs.declared.KeyRead.TheVariants.{Bare, Valued}
 use Rattle.tag_step.specs.Read.{is_quote, recover_of, key_at}
 use Rattle.tag_step.specs.Next.{Keys, check_of, keys_of}
 
@@ -25,23 +23,23 @@ unfoldable pub look_value : List ℕ → Bool → ℕ → ℕ
 look_value s html eq = look_from s html (first_from not_space s (eq + 1))
 
 -- a key that is refused: its `=`
-unfoldable pub look_by : List ℕ → Bool → ℕ → Checked → ℕ
-look_by s html eq (Fresh n) = look_value s html eq
-look_by s html eq (Same earlier) = eq
-look_by s html eq Full = eq
+unfoldable pub look_by : List ℕ → Bool → ℕ → Result ℕ KeyRefusal → ℕ
+look_by s html eq (Ok n) = look_value s html eq
+look_by s html eq (Err (Same earlier)) = eq
+look_by s html eq (Err Full) = eq
 
 -- a bare key: the next byte that is no whitespace
-unfoldable pub look_key : List ℕ → Bool → Bool → Keys → KeyRead → ℕ
-look_key s html checks keys NoKey = length s
-look_key s html checks keys (Bare key at) = at
-look_key s html checks keys (Valued key eq) = look_by s html eq (check_of s checks keys key)
+unfoldable pub look_key : List ℕ → Bool → Bool → Keys → Option KeyRead → ℕ
+look_key s html checks keys None = length s
+look_key s html checks keys (Some (Bare key at)) = at
+look_key s html checks keys (Some (Valued key eq)) = look_by s html eq (check_of s checks keys key)
 
 unfoldable pub look_at : List ℕ → Bool → Bool → Keys → ℕ → ℕ
 look_at s html checks keys o = look_key s html checks keys (key_at s o)
 
-unfoldable pub look_start : List ℕ → Bool → Bool → Keys → Start → ℕ
-look_start s html checks keys (From o) = look_at s html checks keys o
-look_start s html checks keys Ended = length s
+unfoldable pub look_start : List ℕ → Bool → Bool → Keys → Option ℕ → ℕ
+look_start s html checks keys (Some o) = look_at s html checks keys o
+look_start s html checks keys None = length s
 
 unfoldable pub look_of : List ℕ → Bool → Bool → Keys → Place → ℕ
 look_of s html checks keys place = look_start s html checks keys (recover_of s place)

@@ -1,21 +1,20 @@
 -- One step of the iterator: document 01, "Reading a tag" and "Numbers and what they leave". The parts of a step take the
 -- mode, the checks and the recorded keys, never the place; the state is built once, in `next_of`.
-use Rattle.std.specs.Prelude.{ℕ, Bool, true, false, ◌&&◌, List, length, replicate, ltb}
+use Rattle.std.specs.Prelude.{ℕ, Bool, true, false, ◌&&◌, List, length, replicate, ltb, None, Some, Ok, Err, Result, Option}
 use Rattle.scan.specs.First.{pick}
 use Rattle.scan.specs.Bytes.{part}
-use Rattle.tag_keys.specs.declared.Checked.{Checked}
-use Rattle.tag_keys.specs.declared.Checked.TheVariants.{Fresh, Same, Full}
+use Rattle.tag_keys.specs.declared.KeyRefusal.{KeyRefusal}
+use Rattle.tag_keys.specs.declared.KeyRefusal.TheVariants.{Same, Full}
 use Rattle.tag_keys.specs.Hash.{hash_of}
 use Rattle.tag_keys.specs.Keys.{capacity, table_good, checked_of, written_by, count_by}
 use Rattle.tag_step.specs.declared.Span.{Span}
 use Rattle.tag_step.specs.declared.Place.{Place}
 use Rattle.tag_step.specs.declared.Place.TheVariants.{Done, Next, SkipValue, SkipEqValue}
-use Rattle.tag_step.specs.declared.Start.{Start}
-use Rattle.tag_step.specs.declared.Start.TheVariants.{From, Ended}
 use Rattle.tag_step.specs.declared.KeyRead.{KeyRead}
-use Rattle.tag_step.specs.declared.KeyRead.TheVariants.{NoKey, Bare, Valued}
-use Rattle.tag_step.specs.declared.Answer.{Answer}
-use Rattle.tag_step.specs.declared.Answer.TheVariants.{End, Empty, ExpectedEq, Duplicated, KeyTableFull, BadState}
+use Rattle.tag_step.specs.declared.KeyRead.TheVariants.{Bare, Valued}
+use Rattle.tag_step.specs.Answer.{Answer}
+use Rattle.tag_step.specs.declared.Attr.TheVariants.{Empty}
+use Rattle.tag_step.specs.declared.AttrError.TheVariants.{ExpectedEq, Duplicated, KeyTableFull, BadState}
 use Rattle.tag_step.specs.declared.Found.{Found}
 use Rattle.tag_step.specs.declared.Advance.{Advance}
 use Rattle.tag_step.specs.declared.IterState.{IterState}
@@ -49,11 +48,11 @@ advanced o starts ends hashes =
 
 -- The check of a key.
 
-unfoldable pub check_of : List ℕ → Bool → Keys → Span → Checked
+unfoldable pub check_of : List ℕ → Bool → Keys → Span → Result ℕ KeyRefusal
 check_of s checks keys key = checked_of s checks keys.starts keys.ends keys.count key.start key.end
 
 -- the recorded keys after a verdict: a new one is kept with the hash of its bytes
-unfoldable pub kept_by : List ℕ → Bool → Keys → Span → Checked → Keys
+unfoldable pub kept_by : List ℕ → Bool → Keys → Span → Result ℕ KeyRefusal → Keys
 kept_by s checks keys key c =
     record {
       starts = written_by checks c keys.starts keys.count key.start;
@@ -69,28 +68,28 @@ unfoldable pub place_at : List ℕ → ℕ → Place
 place_at s at = pick (ltb at (length s)) (Next at) Done
 
 -- HTML mode checks a bare key and answers Empty, leaving the place as 1 does; so does 5 of a bare key. 6 leaves done.
-unfoldable pub bare_by : List ℕ → Span → ℕ → Checked → Found
-bare_by s key at (Fresh n) = found (Empty key) (place_at s at)
-bare_by s key at (Same earlier) = found (Duplicated key.start earlier) (place_at s at)
-bare_by s key at Full = found (KeyTableFull key.start) Done
+unfoldable pub bare_by : List ℕ → Span → ℕ → Result ℕ KeyRefusal → Found
+bare_by s key at (Ok n) = found (Some (Ok (Empty key))) (place_at s at)
+bare_by s key at (Err (Same earlier)) = found (Some (Err (Duplicated key.start earlier))) (place_at s at)
+bare_by s key at (Err Full) = found (Some (Err (KeyTableFull key.start))) Done
 
-unfoldable pub bare_to : List ℕ → Bool → Keys → Span → ℕ → Checked → Reading
+unfoldable pub bare_to : List ℕ → Bool → Keys → Span → ℕ → Result ℕ KeyRefusal → Reading
 bare_to s checks keys key at c = reading (bare_by s key at c) (kept_by s checks keys key c)
 
 -- XML mode answers 1 without recording.
 unfoldable pub bare_of : List ℕ → Bool → Bool → Keys → Span → ℕ → Reading
 bare_of s html checks keys key at =
-    pick html (bare_to s checks keys key at (check_of s checks keys key)) (reading (found (ExpectedEq at) (place_at s at)) keys)
+    pick html (bare_to s checks keys key at (check_of s checks keys key)) (reading (found (Some (Err (ExpectedEq at))) (place_at s at)) keys)
 
 -- A key with `=`.
 
 -- The value of a new key is read. After 5 reading skips from the `=`. 6 leaves done.
-unfoldable pub valued_by : List ℕ → Bool → Span → ℕ → Checked → Found
-valued_by s html key eq (Fresh n) = value_at s html key eq
-valued_by s html key eq (Same earlier) = found (Duplicated key.start earlier) (SkipEqValue eq)
-valued_by s html key eq Full = found (KeyTableFull key.start) Done
+unfoldable pub valued_by : List ℕ → Bool → Span → ℕ → Result ℕ KeyRefusal → Found
+valued_by s html key eq (Ok n) = value_at s html key eq
+valued_by s html key eq (Err (Same earlier)) = found (Some (Err (Duplicated key.start earlier))) (SkipEqValue eq)
+valued_by s html key eq (Err Full) = found (Some (Err (KeyTableFull key.start))) Done
 
-unfoldable pub valued_to : List ℕ → Bool → Bool → Keys → Span → ℕ → Checked → Reading
+unfoldable pub valued_to : List ℕ → Bool → Bool → Keys → Span → ℕ → Result ℕ KeyRefusal → Reading
 valued_to s html checks keys key eq c = reading (valued_by s html key eq c) (kept_by s checks keys key c)
 
 -- With `=` found, the key is checked and recorded before its value is looked at.
@@ -100,10 +99,10 @@ valued_of s html checks keys key eq = valued_to s html checks keys key eq (check
 -- A step.
 
 -- If nothing is left but whitespace, this is the end, and leaves done.
-unfoldable pub read_key : List ℕ → Bool → Bool → Keys → KeyRead → Reading
-read_key s html checks keys NoKey = reading (found End Done) keys
-read_key s html checks keys (Bare key at) = bare_of s html checks keys key at
-read_key s html checks keys (Valued key eq) = valued_of s html checks keys key eq
+unfoldable pub read_key : List ℕ → Bool → Bool → Keys → Option KeyRead → Reading
+read_key s html checks keys None = reading (found None Done) keys
+read_key s html checks keys (Some (Bare key at)) = bare_of s html checks keys key at
+read_key s html checks keys (Some (Valued key eq)) = valued_of s html checks keys key eq
 
 -- reading from position o
 unfoldable pub read_at : List ℕ → Bool → Bool → Keys → ℕ → Reading
@@ -111,9 +110,9 @@ read_at s html checks keys o = read_key s html checks keys (key_at s o)
 
 -- Where reading does not go on (done, a place past the end, a skip with no whitespace after it) this is the end, and the
 -- place stays as it was.
-unfoldable pub step_from : List ℕ → Bool → Bool → Keys → Place → Start → Reading
-step_from s html checks keys place (From o) = read_at s html checks keys o
-step_from s html checks keys place Ended = reading (found End place) keys
+unfoldable pub step_from : List ℕ → Bool → Bool → Keys → Place → Option ℕ → Reading
+step_from s html checks keys place (Some o) = read_at s html checks keys o
+step_from s html checks keys place None = reading (found None place) keys
 
 unfoldable pub step_of : List ℕ → Bool → Bool → Keys → Place → Reading
 step_of s html checks keys place = step_from s html checks keys place (recover_of s place)
@@ -153,7 +152,7 @@ no_keys = record { starts = replicate capacity 0; ends = replicate capacity 0; h
 
 -- 7 leaves done and no recorded keys.
 unfoldable pub bad_reading : Reading
-bad_reading = reading (found BadState Done) no_keys
+bad_reading = reading (found (Some (Err BadState)) Done) no_keys
 
 -- `next`.
 

@@ -1,27 +1,14 @@
 -- Whole runs: the answers one after another, up to the end.
-use Rattle.std.specs.Prelude.{ℕ, zero, suc, Bool, true, false, List, [], ◌∷◌, length}
+use Rattle.std.specs.Prelude.{ℕ, zero, suc, Bool, true, false, List, [], ◌∷◌, length, None, Some, Option}
 use Rattle.tag_step.specs.declared.Place.{Place}
-use Rattle.tag_step.specs.declared.Start.{Start}
-use Rattle.tag_step.specs.declared.Start.TheVariants.{From, Ended}
-use Rattle.tag_step.specs.declared.Answer.{Answer}
-use Rattle.tag_step.specs.declared.Answer.TheVariants.{End, DoubleQ, SingleQ, Unquoted, Empty, ExpectedEq, ExpectedValue, UnquotedValue, ExpectedQuote, Duplicated, KeyTableFull, BadState}
+use Rattle.tag_step.specs.Answer.{Answer}
 use Rattle.tag_step.specs.declared.IterState.{IterState}
 use Rattle.tag_step.specs.Read.{recover_of}
 use Rattle.tag_step.specs.Next.{Keys, read_at, step_of, next_of}
 
 unfoldable pub is_end : Answer → Bool
-is_end End = true
-is_end (DoubleQ k v) = false
-is_end (SingleQ k v) = false
-is_end (Unquoted k v) = false
-is_end (Empty k) = false
-is_end (ExpectedEq p) = false
-is_end (ExpectedValue l) = false
-is_end (UnquotedValue p) = false
-is_end (ExpectedQuote l q) = false
-is_end (Duplicated this earlier) = false
-is_end (KeyTableFull this) = false
-is_end BadState = false
+is_end None = true
+is_end (Some x) = false
 
 -- nothing at the end, else the answer and those after it
 unfoldable pub cons_unless : Bool → Answer → List Answer → List Answer
@@ -48,12 +35,12 @@ run_lent (suc n) s html checks keys place =
 
 -- The same over where reading goes on, whatever place leads there, with the state taken for good (`lent_resumes`,
 -- proofs/Run).
-unfoldable pub run_from : ℕ → List ℕ → Bool → Bool → Keys → Start → List Answer
+unfoldable pub run_from : ℕ → List ℕ → Bool → Bool → Keys → Option ℕ → List Answer
 run_from zero s html checks keys x = []
-run_from (suc n) s html checks keys Ended = []
-run_from (suc n) s html checks keys (From o) =
+run_from (suc n) s html checks keys None = []
+run_from (suc n) s html checks keys (Some o) =
     cons_unless (is_end (read_at s html checks keys o).answer) (read_at s html checks keys o).answer
     (run_from n s html checks (read_at s html checks keys o).keys (recover_of s (read_at s html checks keys o).place))
 
-unfoldable pub answers_from : List ℕ → Bool → Bool → Keys → Start → List Answer
+unfoldable pub answers_from : List ℕ → Bool → Bool → Keys → Option ℕ → List Answer
 answers_from s html checks keys x = run_from (length s) s html checks keys x

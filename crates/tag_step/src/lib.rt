@@ -4,9 +4,8 @@
 // specs/Next.antt, for every tag and every state. The work is done on tables that the caller lends (`step_in`,
 // after the test of refusal 7, `good_in`); `IterState::next` lends its own.
 //
-// The names are the crate's. Its `keys: Vec<Range<usize>>` is three tables and a count here, its `Option` and `Result` an
-// enum for each kind of answer. Documents number the refusals: `numbers_of` (specs/Numbers.antt) gives an answer's number
-// and values.
+// The names are the crate's. Its `keys: Vec<Range<usize>>` is three tables and a count here. Documents number the refusals:
+// `numbers_of` (specs/Numbers.antt) gives an answer's number and values.
 #![tactic(auto)]
 
 ghost use Rattle.std.specs.Prelude.{◌≡◌, true, ◌+◌, ◌^◌, ◌<◌, ◌≤◌, length, replicate};
@@ -17,7 +16,7 @@ ghost use Rattle.tag_step.specs.Lent.{taken, kept_in, bare_in, valued_in, step_i
 ghost use Rattle.tag_keys.specs.Sieve.{sieve_left, SieveOf};
 ghost use Rattle.tag_keys.specs.Keys.{capacity, KeysIn};
 
-use tag_keys::{CAPACITY, Checked, Hashed, SIEVE_WORDS};
+use tag_keys::{CAPACITY, Hashed, KeyRefusal, SIEVE_WORDS};
 
 // Where a key or a value stands in the tag: `Range<usize>` of the crate, the end not included.
 #[derive(Clone, Copy)]
@@ -39,11 +38,9 @@ pub enum Place {
     SkipEqValue(usize),
 }
 
-// One answer: an attribute (`Attr`), a refusal (`AttrError`), or the end (`None`). Each case with an input that gives it.
+// An attribute: `Attr` of the crate. Each case with an input that gives it.
 #[derive(Clone, Copy)]
-pub enum Answer {
-    // Nothing is left.
-    End,
+pub enum Attr {
     // `key="value"`: the key, and the value without its quotes.
     DoubleQ(Span, Span),
     // `key='value'`.
@@ -52,6 +49,11 @@ pub enum Answer {
     Unquoted(Span, Span),
     // `key` with no value, in HTML mode.
     Empty(Span),
+}
+
+// A refusal: `AttrError` of the crate, with two cases that it lacks, 6 and 7. Each with an input that gives it.
+#[derive(Clone, Copy)]
+pub enum AttrError {
     // 1: `key key2="v"` where `key2` begins; reading goes on there.
     ExpectedEq(usize),
     // 2: `key=` and no more: the tag's length.
@@ -68,6 +70,9 @@ pub enum Answer {
     // 7: a state that no reading of this tag leaves.
     BadState,
 }
+
+// One answer: an attribute, a refusal, or `None` where nothing is left.
+pub type Answer = Option<Result<Attr, AttrError>>;
 
 // The state of an iterator: `IterState` of the crate. The recorded keys are the first `count` of `starts`, `ends` and `hashes`.
 #[derive(Clone, Copy)]
@@ -98,18 +103,9 @@ pub struct Step {
     pub state: IterState,
 }
 
-// Where the search for the next key begins: the `Option<usize>` that the crate's `recover` gives.
-#[derive(Clone, Copy)]
-pub enum Start {
-    From(usize),
-    Ended,
-}
-
-// What stands where a key is looked for: none, a key with no `=` after it and the place of what follows, or a key and
-// the place of its `=`.
+// A key and what stands after it: no `=`, with the place of what follows, or the place of its `=`.
 #[derive(Clone, Copy)]
 pub enum KeyRead {
-    NoKey,
     Bare(Span, usize),
     Valued(Span, usize),
 }
@@ -129,23 +125,12 @@ pub struct Advance {
     pub count: usize,
 }
 
-// What a step on tables of any length gives.
-#[derive(Clone, Copy)]
-pub enum Stepped {
-    Made(Advance),
-    // The next key is due to be recorded, and no place is lent for it: nothing is changed. The caller lends longer tables,
-    // with the recorded keys in their places, and goes on.
-    LendMore,
-}
-
 // Whether a byte opens a quoted value.
+#[tactic(auto, unfolding(crate::specs::Read::is_quote))]
 pub fn is_quote(b: u8) -> bool
     ensures { result ≡ is_quote b }
 {
-    if b == b'"' {
-        return true;
-    }
-    b == b'\''
+    b == b'"' || b == b'\''
 }
 
 // Passes over a value: `IterState::skip_value`.
@@ -153,14 +138,12 @@ pub fn is_quote(b: u8) -> bool
 //     key  =  value  next
 //             |    ^
 //        offset    the answer
-fn skip_value(tag: &[u8], offset: usize) -> Start
+#[tactic(auto, unfolding(crate::specs::Read::skip_of, crate::specs::Read::skip_to))]
+fn skip_value(tag: &[u8], offset: usize) -> Option<usize>
     ensures { result ≡ skip_of tag.now offset }
 {
     let e = scan::whitespace_from(tag, offset);
-    if e < tag.len() {
-        return Start::From(e);
-    }
-    Start::Ended
+    if e < tag.len() { Some(e) } else { None }
 }
 
 // Where the search for the next key begins, after what the last answer left: `IterState::recover`. From the `=` of a
@@ -170,77 +153,54 @@ fn skip_value(tag: &[u8], offset: usize) -> Start
 //     key  ="a value"  next
 //          |  ^
 //     offset  the answer
-pub fn recover(tag: &[u8], place: Place) -> Start
+#[tactic(auto, unfolding(crate::specs::Read::recover_of))]
+pub fn recover(tag: &[u8], place: Place) -> Option<usize>
     ensures { result ≡ recover_of tag.now place }
 {
     match place {
-        Place::Done => Start::Ended,
-        Place::Next(offset) => {
-            if offset <= tag.len() {
-                return Start::From(offset);
-            }
-            Start::Ended
-        }
-        Place::SkipValue(offset) => skip_value(tag, offset),
-        Place::SkipEqValue(offset) => skip_value(tag, offset),
+        Place::Next(offset) if offset <= tag.len() => Some(offset),
+        Place::Done | Place::Next(_) => None,
+        Place::SkipValue(offset) | Place::SkipEqValue(offset) => skip_value(tag, offset),
     }
 }
 
-// The key at or after `from`, and what follows it: the first half of `IterState::next`.
+// The key at or after `from`, if there is one, and what follows it: the first half of `IterState::next`.
 //
 //        key  =  value           key  x            key
 //     |  |  | ^               |  |  | ^         |  |  ^
 //  from  s  e  at          from  s  e  at    from  s  e, at: the length
-pub fn read_key(tag: &[u8], from: usize) -> KeyRead
+#[tactic(auto, unfolding(crate::specs::Read::key_at, crate::specs::Read::key_from, crate::specs::Read::key_to, crate::specs::Read::key_eq, crate::specs::Read::is_at))]
+pub fn read_key(tag: &[u8], from: usize) -> Option<KeyRead>
     ensures { result ≡ key_at tag.now from }
 {
     let start = scan::content_from(tag, from);
     if start >= tag.len() {
-        return KeyRead::NoKey;
+        return None;
     }
     let end = scan::key_end_from(tag, start + 1);
     let at = scan::content_from(tag, end);
-    let key = Span {
-        start: start,
-        end: end,
+    let key = Span { start, end };
+    if at < tag.len() && tag[at] == b'=' {
+        return Some(KeyRead::Valued(key, at));
+    }
+    Some(KeyRead::Bare(key, at))
+}
+
+// An attribute in the quotes `quote`: `IterState::double_q` and `IterState::single_q`. Reading goes on after the closing quote.
+#[tactic(auto, unfolding(crate::specs::Read::closed_of, crate::specs::Read::quoted))]
+fn closed(quote: u8, key: Span, value: Span) -> Found
+    requires { value.end + 1 < 2 ^ 64 }
+    ensures { result ≡ closed_of quote key value }
+{
+    let answer = if quote == b'"' {
+        Some(Ok(Attr::DoubleQ(key, value)))
+    } else {
+        Some(Ok(Attr::SingleQ(key, value)))
     };
-    if at >= tag.len() {
-        return KeyRead::Bare(key, at);
-    }
-    if tag[at] == b'=' {
-        return KeyRead::Valued(key, at);
-    }
-    KeyRead::Bare(key, at)
-}
-
-// An attribute in `"`: `IterState::double_q`. Reading goes on after the closing quote.
-#[tactic(auto, unfolding(crate::specs::Read::closed_of, crate::specs::Read::quoted))]
-fn double_q(key: Span, value: Span) -> Found
-    requires { value.end + 1 < 2 ^ 64 }
-    ensures { result ≡ closed_of 34 key value }
-{
     Found {
-        answer: Answer::DoubleQ(key, value),
+        answer,
         place: Place::Next(value.end + 1),
     }
-}
-
-// An attribute in `'`: `IterState::single_q`.
-#[tactic(auto, unfolding(crate::specs::Read::closed_of, crate::specs::Read::quoted))]
-fn single_q(key: Span, value: Span) -> Found
-    requires { value.end + 1 < 2 ^ 64 }
-    ensures { result ≡ closed_of 39 key value }
-{
-    Found {
-        answer: Answer::SingleQ(key, value),
-        place: Place::Next(value.end + 1),
-    }
-}
-
-fn wide(b: u8) -> usize
-    ensures { result ≡ b }
-{
-    b as usize
 }
 
 // The value in the quotes `quote` that begins at `from`: the end of `IterState::next`.
@@ -248,24 +208,25 @@ fn wide(b: u8) -> usize
 //     key = "value" next
 //            |    ^
 //         from    the same quote
+#[tactic(auto, unfolding(crate::specs::Read::quoted_of, crate::specs::Read::quoted_to))]
 fn read_quoted(tag: &[u8], quote: u8, key: Span, from: usize) -> Found
     ensures { result ≡ quoted_of tag.now quote key from }
 {
     let e = scan::byte_from(tag, from, quote);
     if e >= tag.len() {
         return Found {
-            answer: Answer::ExpectedQuote(tag.len(), wide(quote)),
+            answer: Some(Err(AttrError::ExpectedQuote(tag.len(), usize::from(quote)))),
             place: Place::Done,
         };
     }
-    let value = Span {
-        start: from,
-        end: e,
-    };
-    if quote == b'"' {
-        return double_q(key, value);
-    }
-    single_q(key, value)
+    closed(
+        quote,
+        key,
+        Span {
+            start: from,
+            end: e,
+        },
+    )
 }
 
 // The value after the `=` at `eq`: the second half of `IterState::next`.
@@ -273,6 +234,7 @@ fn read_quoted(tag: &[u8], quote: u8, key: Span, from: usize) -> Found
 //     key =  "value"      key =  value next      key =
 //         |  ^                |  ^    ^              |  ^
 //        eq  v               eq  v    e             eq  v: the length
+#[tactic(auto, unfolding(crate::specs::Read::value_at, crate::specs::Read::value_from, crate::specs::Read::value_by, crate::specs::Read::other_of, crate::specs::Read::unquoted_to))]
 fn read_value(tag: &[u8], html: bool, key: Span, eq: usize) -> Found
     requires { eq < length tag.now }
     ensures { result ≡ value_at tag.now html key eq }
@@ -280,7 +242,7 @@ fn read_value(tag: &[u8], html: bool, key: Span, eq: usize) -> Found
     let v = scan::content_from(tag, eq + 1);
     if v >= tag.len() {
         return Found {
-            answer: Answer::ExpectedValue(tag.len()),
+            answer: Some(Err(AttrError::ExpectedValue(tag.len()))),
             place: Place::Done,
         };
     }
@@ -291,40 +253,37 @@ fn read_value(tag: &[u8], html: bool, key: Span, eq: usize) -> Found
     if html {
         let e = scan::whitespace_from(tag, v);
         return Found {
-            answer: Answer::Unquoted(key, Span { start: v, end: e }),
+            answer: Some(Ok(Attr::Unquoted(key, Span { start: v, end: e }))),
             place: Place::Next(e),
         };
     }
     Found {
-        answer: Answer::UnquotedValue(v),
+        answer: Some(Err(AttrError::UnquotedValue(v))),
         place: Place::SkipValue(v),
     }
 }
 
 // Where a bare key leaves the reading: at what follows it, or done.
+#[tactic(auto, unfolding(crate::specs::Next::place_at))]
 fn place_at(tag: &[u8], at: usize) -> Place
     ensures { result ≡ place_at tag.now at }
 {
     if at < tag.len() {
-        return Place::Next(at);
+        Place::Next(at)
+    } else {
+        Place::Done
     }
-    Place::Done
 }
 
 // Whether a place is one that reading this tag leaves.
+#[tactic(auto, unfolding(crate::specs::Next::place_good, crate::specs::Read::is_at))]
 fn place_good(tag: &[u8], place: Place) -> bool
     ensures { result ≡ place_good tag.now place }
 {
     match place {
-        Place::Done => true,
-        Place::Next(_) => true,
+        Place::Done | Place::Next(_) => true,
         Place::SkipValue(offset) => offset < tag.len(),
-        Place::SkipEqValue(offset) => {
-            if offset >= tag.len() {
-                return false;
-            }
-            tag[offset] == b'='
-        }
+        Place::SkipEqValue(offset) => offset < tag.len() && tag[offset] == b'=',
     }
 }
 
@@ -339,10 +298,7 @@ pub fn good_in<'a>(
 ) -> bool
     ensures { result ≡ good_of tag.now (keys_lent starts.now ends.now hashes.now count) place }
 {
-    if !tag_keys::keys_good(tag, starts, ends, hashes, count) {
-        return false;
-    }
-    place_good(tag, place)
+    tag_keys::keys_good(tag, starts, ends, hashes, count) && place_good(tag, place)
 }
 
 // A key with no value: `IterState::key_only`. HTML mode checks it as any other; XML mode refuses it and does not.
@@ -359,7 +315,7 @@ fn key_only<'a>(
     at: Standing,
     key: Span,
     offset: usize,
-) -> Stepped
+) -> Option<Advance>
     requires keys_in { KeysIn starts.old ends.old hashes.old at.count tag.now }
     requires start_lt_end { (key.start < key.end) × (key.end ≤ length tag.now) }
     requires sieve_of { SieveOf at.checks sieve.old hashes.old at.count }
@@ -369,10 +325,10 @@ fn key_only<'a>(
     let count = at.count;
     let place = place_at(tag, offset);
     if !at.html {
-        return Stepped::Made(Advance {
-            answer: Answer::ExpectedEq(offset),
-            place: place,
-            count: count,
+        return Some(Advance {
+            answer: Some(Err(AttrError::ExpectedEq(offset))),
+            place,
+            count,
         });
     }
     let checks = at.checks;
@@ -380,28 +336,28 @@ fn key_only<'a>(
     let hashed = Hashed {
         start: key.start,
         end: key.end,
-        hash: hash,
+        hash,
     };
     match tag_keys::check_unsifted(tag, starts, ends, hashes, checks, count, hashed) {
-        Checked::Fresh(more) => {
+        Ok(more) => {
             if !tag_keys::record_key(starts, ends, hashes, sieve, checks, count, hashed) {
-                return Stepped::LendMore;
+                return None;
             }
-            Stepped::Made(Advance {
-                answer: Answer::Empty(key),
-                place: place,
+            Some(Advance {
+                answer: Some(Ok(Attr::Empty(key))),
+                place,
                 count: more,
             })
         }
-        Checked::Same(earlier) => Stepped::Made(Advance {
-            answer: Answer::Duplicated(key.start, earlier),
-            place: place,
-            count: count,
+        Err(KeyRefusal::Same(earlier)) => Some(Advance {
+            answer: Some(Err(AttrError::Duplicated(key.start, earlier))),
+            place,
+            count,
         }),
-        Checked::Full => Stepped::Made(Advance {
-            answer: Answer::KeyTableFull(key.start),
+        Err(KeyRefusal::Full) => Some(Advance {
+            answer: Some(Err(AttrError::KeyTableFull(key.start))),
             place: Place::Done,
-            count: count,
+            count,
         }),
     }
 }
@@ -416,7 +372,7 @@ fn key_valued<'a>(
     at: Standing,
     key: Span,
     eq: usize,
-) -> Stepped
+) -> Option<Advance>
     requires keys_in { KeysIn starts.old ends.old hashes.old at.count tag.now }
     requires start_lt_end { (key.start < key.end) × (key.end ≤ length tag.now) }
     requires eq_in_bounds { eq < length tag.now }
@@ -430,37 +386,39 @@ fn key_valued<'a>(
     let hashed = Hashed {
         start: key.start,
         end: key.end,
-        hash: hash,
+        hash,
     };
     match tag_keys::check_for_duplicates(tag, starts, ends, hashes, sieve, checks, count, hashed) {
-        Checked::Fresh(more) => {
+        Ok(more) => {
             if !tag_keys::record_key(starts, ends, hashes, sieve, checks, count, hashed) {
-                return Stepped::LendMore;
+                return None;
             }
             let value = read_value(tag, at.html, key, eq);
             let answer = value.answer;
             let place = value.place;
-            Stepped::Made(Advance {
-                answer: answer,
-                place: place,
+            Some(Advance {
+                answer,
+                place,
                 count: more,
             })
         }
-        Checked::Same(earlier) => Stepped::Made(Advance {
-            answer: Answer::Duplicated(key.start, earlier),
+        Err(KeyRefusal::Same(earlier)) => Some(Advance {
+            answer: Some(Err(AttrError::Duplicated(key.start, earlier))),
             place: Place::SkipEqValue(eq),
-            count: count,
+            count,
         }),
-        Checked::Full => Stepped::Made(Advance {
-            answer: Answer::KeyTableFull(key.start),
+        Err(KeyRefusal::Full) => Some(Advance {
+            answer: Some(Err(AttrError::KeyTableFull(key.start))),
             place: Place::Done,
-            count: count,
+            count,
         }),
     }
 }
 
 // One step on lent tables of any length whose recorded keys lie in the tag: `IterState::next`. Nothing is copied, so whoever
-// reads a whole tag tests the state once, makes the sieve of its kept hashes, and calls this.
+// reads a whole tag tests the state once, makes the sieve of its kept hashes, and calls this. `None`: the next key is due to
+// be recorded, and no place is lent for it; nothing is changed. The caller lends longer tables, with the recorded keys in
+// their places, and goes on.
 pub fn step_in<'a>(
     tag: &[u8],
     starts: &'a mut [usize],
@@ -468,28 +426,30 @@ pub fn step_in<'a>(
     hashes: &'a mut [u32],
     sieve: &'a mut [u64],
     at: Standing,
-) -> Stepped
+) -> Option<Advance>
     requires keys_in { KeysIn starts.old ends.old hashes.old at.count tag.now }
     requires sieve_of { SieveOf at.checks sieve.old hashes.old at.count }
     ensures { (taken result starts.new ends.new hashes.new at.count ≡ step_in tag.now at.html at.checks (keys_lent starts.old ends.old hashes.old at.count) at.place)
         × (sieve.new ≡ sieve_left at.checks sieve.old hashes.new (kept_in result at.count)) }
 {
     let place = at.place;
-    let Start::From(from) = recover(tag, place) else {
-        return Stepped::Made(Advance {
-            answer: Answer::End,
-            place: place,
+    let Some(from) = recover(tag, place) else {
+        return Some(Advance {
+            answer: None,
+            place,
             count: at.count,
         });
     };
     match read_key(tag, from) {
-        KeyRead::NoKey => Stepped::Made(Advance {
-            answer: Answer::End,
+        None => Some(Advance {
+            answer: None,
             place: Place::Done,
             count: at.count,
         }),
-        KeyRead::Bare(key, offset) => key_only(tag, starts, ends, hashes, sieve, at, key, offset),
-        KeyRead::Valued(key, eq) => key_valued(tag, starts, ends, hashes, sieve, at, key, eq),
+        Some(KeyRead::Bare(key, offset)) => key_only(
+            tag, starts, ends, hashes, sieve, at, key, offset,
+        ),
+        Some(KeyRead::Valued(key, eq)) => key_valued(tag, starts, ends, hashes, sieve, at, key, eq),
     }
 }
 
@@ -504,48 +464,26 @@ pub fn step_unchecked(tag: &[u8], html: bool, place: Place) -> Found
     let mut hashes = [0u32; 0];
     let mut sieve = [0u64; 0];
     let at = Standing {
-        place: place,
-        html: html,
+        place,
+        html,
         checks: false,
         count: 0,
     };
     let step = step_in(tag, &mut starts, &mut ends, &mut hashes, &mut sieve, at);
     match step {
-        Stepped::Made(made) => {
+        Some(made) => {
             let answer = made.answer;
             let left = made.place;
             Found {
-                answer: answer,
+                answer,
                 place: left,
             }
         }
         // Never: no key is due to be recorded.
-        Stepped::LendMore => Found {
-            answer: Answer::End,
-            place: place,
+        None => Found {
+            answer: None,
+            place,
         },
-    }
-}
-
-// Sets every place of a table to zero, used or not.
-fn clear(table: &mut [usize])
-    ensures { table.new ≡ replicate (length table.old) 0 }
-{
-    let mut i = 0;
-    while i < table.len() {
-        table[i] = 0;
-        i += 1;
-    }
-}
-
-// The same of a table of hashes.
-fn clear_hashes(table: &mut [u32])
-    ensures { table.new ≡ replicate (length table.old) 0 }
-{
-    let mut i = 0;
-    while i < table.len() {
-        table[i] = 0;
-        i += 1;
     }
 }
 
@@ -555,9 +493,9 @@ pub fn clear_keys<'a>(starts: &'a mut [usize], ends: &'a mut [usize], hashes: &'
         × (ends.new ≡ replicate (length ends.old) 0)
         × (hashes.new ≡ replicate (length hashes.old) 0) }
 {
-    clear(starts);
-    clear(ends);
-    clear_hashes(hashes);
+    starts.fill(0);
+    ends.fill(0);
+    hashes.fill(0);
 }
 
 // One answer on tables of full size, for any state whatever: 7 first, which clears them; then a step.
@@ -577,7 +515,7 @@ fn next_in<'a>(
     if !good_in(tag, starts, ends, hashes, count, place) {
         clear_keys(starts, ends, hashes);
         return Advance {
-            answer: Answer::BadState,
+            answer: Some(Err(AttrError::BadState)),
             place: Place::Done,
             count: 0,
         };
@@ -585,12 +523,12 @@ fn next_in<'a>(
     let mut sieve = [0u64; SIEVE_WORDS];
     tag_keys::sieve_kept(&mut sieve, hashes, count);
     match step_in(tag, starts, ends, hashes, &mut sieve, at) {
-        Stepped::Made(made) => made,
+        Some(made) => made,
         // Never: tables of full size have a place for every key that is due to be recorded.
-        Stepped::LendMore => Advance {
-            answer: Answer::End,
-            place: place,
-            count: count,
+        None => Advance {
+            answer: None,
+            place,
+            count,
         },
     }
 }
@@ -603,7 +541,7 @@ impl IterState {
     {
         Self {
             place: Place::Next(offset),
-            html: html,
+            html,
             check_duplicates: true,
             starts: [0; CAPACITY],
             ends: [0; CAPACITY],
@@ -622,36 +560,21 @@ impl IterState {
     }
 
     // One answer, and the state after it: `IterState::next`, for any state whatever.
-    pub fn next(self, tag: &[u8]) -> Step
+    pub fn next(mut self, tag: &[u8]) -> Step
         ensures { numbered_step result ≡ numbered_step (next_of tag.now self) }
     {
-        let html = self.html;
-        let checks = self.check_duplicates;
-        let mut starts = self.starts;
-        let mut ends = self.ends;
-        let mut hashes = self.hashes;
-        let count = self.count;
-        let place = self.place;
         let at = Standing {
-            place: place,
-            html: html,
-            checks: checks,
-            count: count,
+            place: self.place,
+            html: self.html,
+            checks: self.check_duplicates,
+            count: self.count,
         };
-        let made = next_in(tag, &mut starts, &mut ends, &mut hashes, at);
-        let answer = made.answer;
-        let left = made.place;
+        let made = next_in(tag, &mut self.starts, &mut self.ends, &mut self.hashes, at);
+        self.place = made.place;
+        self.count = made.count;
         Step {
-            answer: answer,
-            state: IterState {
-                place: left,
-                html: html,
-                check_duplicates: checks,
-                starts: starts,
-                ends: ends,
-                hashes: hashes,
-                count: made.count,
-            },
+            answer: made.answer,
+            state: self,
         }
     }
 }

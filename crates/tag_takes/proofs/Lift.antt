@@ -7,14 +7,15 @@ use native.Mathlib.Omega.{arith}
 use lib.ListN.{length, replicate, length-replicate}
 use lib.Dec.{leb, ltb}
 use borrow.Author.Tests.{le-leb, lt-ltb, le-ltb, not-false}
+use Rattle.std.proofs.Common.{Some}
+use Rattle.std.specs.Prelude.{Err, None, Ok}
 use Rattle.scan.specs.First.{pick}
 use Rattle.tag_keys.specs.Keys.{capacity, holds}
 use Rattle.tag_keys.proofs.Laws.{in_table, keys_none}
-use Rattle.tag_step.specs.declared.Answer.{Answer}
-use Rattle.tag_step.specs.declared.Answer.TheVariants.{BadState}
+use Rattle.tag_step.specs.Answer.{Answer}
+use Rattle.tag_step.specs.declared.AttrError.TheVariants.{BadState}
 use Rattle.tag_step.specs.declared.IterState.{IterState}
 use Rattle.tag_step.specs.declared.Advance.{Advance}
-use Rattle.tag_step.specs.declared.Stepped.TheVariants.{Made}
 use Rattle.tag_step.specs.Read.{recover_of}
 use Rattle.tag_step.specs.Next.{Reading, keys_lent, keys_of, step_of, lent_state, place_good, state_good}
 use Rattle.tag_step.specs.Look.{look_start, look_of, look_next}
@@ -29,7 +30,6 @@ use Rattle.tag_phase.specs.declared.Phase.{Phase}
 use Rattle.tag_phase.specs.declared.Phase.TheVariants.{Begin}
 use Rattle.tag_phase.specs.Phase.{waiting_of, waits_by, waits_on}
 use Rattle.tag_pieces.specs.declared.Reader.{Reader}
-use Rattle.tag_pieces.specs.declared.Taken.TheVariants.{More, Gives}
 use Rattle.tag_pieces.specs.Reader.{held_of, iterator_of, reader_good, moved, emptied, waits_for, took, answered_of, take_of}
 use Rattle.tag_takes.specs.Takes.{Takes, takes, takes_by, takes_of, looks_past, ready_of}
 
@@ -48,7 +48,7 @@ module _ (s : List ℕ) (st : IterState) (p : Ripe s st) where
   fits : needs_more s st ≡ false → holds st.starts st.ends st.hashes x.keys.count ≡ true
   fits n = not-false _ (sym (good_needs s st p.starts p.ends p.hashes p.good x is) ∙ n)
 
-  takes_it : needs_more s st ≡ false → taken (Made made) x.keys.starts x.keys.ends x.keys.hashes st.count ≡ taken_on (keys_lent st.starts st.ends st.hashes st.count) x
+  takes_it : needs_more s st ≡ false → taken (Some made) x.keys.starts x.keys.ends x.keys.hashes st.count ≡ taken_on (keys_lent st.starts st.ends st.hashes st.count) x
   unfolding taken_on
   takes_it n = rw (fits n)
 
@@ -56,7 +56,7 @@ module _ (s : List ℕ) (st : IterState) (p : Ripe s st) where
   ripe_stays : needs_more s st ≡ false → Ripe s (stepped_of s st)
   ripe_stays n =
       subst (Ripe s) (sym (good_leaves s st p.starts p.ends p.hashes p.good x is))
-      (step_ripe s st.place st.html st.check_duplicates st.starts st.ends st.hashes st.count p (Made made) x.keys.starts x.keys.ends x.keys.hashes (takes_it n) made refl)
+      (step_ripe s st.place st.html st.check_duplicates st.starts st.ends st.hashes st.count p (Some made) x.keys.starts x.keys.ends x.keys.hashes (takes_it n) made refl)
 
   -- mode and checks stay
   stays_html : (stepped_of s st).html ≡ st.html
@@ -112,7 +112,7 @@ module _ (r : Reader) (h : Ready r) where
   unfolding take_of
   took_answer w = rw (ready_good r h, w)
 
-  took_more : waits_for r ≡ true → take_of r ≡ took More r
+  took_more : waits_for r ≡ true → take_of r ≡ took (Ok None) r
   unfolding take_of
   took_more w = rw (ready_good r h, w)
 
@@ -236,16 +236,16 @@ module _ (r : Reader) (ls : length r.starts ≤ capacity) (le : length r.ends �
     by false f = empty_more n f
 
   module _ (bad : reader_good r ≡ false) (room : ℕ) where
-    took_bad : take_of r ≡ took (Gives BadState) (emptied r)
+    took_bad : take_of r ≡ took (Ok (Some (Some (Err BadState)))) (emptied r)
     unfolding take_of
     took_bad = rw bad
 
-    seven_by : (n : ℕ) → room / 5 ≡ suc n → takes_of (suc n) r ≡ takes (BadState ∷ []) (emptied r) (pick (ltb room 10) OutFull AtEnd)
+    seven_by : (n : ℕ) → room / 5 ≡ suc n → takes_of (suc n) r ≡ takes (Some (Err BadState) ∷ []) (emptied r) (pick (ltb room 10) OutFull AtEnd)
     unfolding takes_of takes_by is_end
     seven_by zero e = rw (took_bad, lt-ltb room 10 (omega arith))
     seven_by (suc n) e = rw (took_bad, empty_ends n, le-ltb room 10 (omega arith))
 
-    pub takes_seven : 5 ≤ room → takes_of (room / 5) r ≡ takes (BadState ∷ []) (emptied r) (pick (ltb room 10) OutFull AtEnd)
+    pub takes_seven : 5 ≤ room → takes_of (room / 5) r ≡ takes (Some (Err BadState) ∷ []) (emptied r) (pick (ltb room 10) OutFull AtEnd)
     takes_seven h =
         let e : room / 5 ≡ suc (room / 5 - 1) = omega arith in
         ap (λ (n : ℕ). takes_of n r) e ∙ seven_by (room / 5 - 1) e

@@ -1,8 +1,8 @@
 -- Many answers in one call: they are taken one by one, up to as many as a lent output holds.
-use Rattle.std.specs.Prelude.{ℕ, zero, suc, Bool, not, ◌&&◌, List, [], ◌∷◌, length, eqb, leb}
+use Rattle.std.specs.Prelude.{ℕ, zero, suc, Bool, not, ◌&&◌, List, [], ◌∷◌, length, eqb, leb, Option, None, Some, Result, Ok, Err}
 use Rattle.scan.specs.First.{pick}
 use Rattle.scan.specs.Lists.{over}
-use Rattle.tag_step.specs.declared.Answer.{Answer}
+use Rattle.tag_step.specs.Answer.{Answer}
 use Rattle.tag_step.specs.declared.IterState.{IterState}
 use Rattle.tag_step.specs.declared.Place.{Place}
 use Rattle.tag_step.specs.declared.Place.TheVariants.{Done}
@@ -15,10 +15,9 @@ use Rattle.tag_batch.specs.Batch.{fives_of, answers_room, Ran, ran, ahead, Batch
 use Rattle.tag_phase.specs.declared.Phase.TheVariants.{Begin}
 use Rattle.tag_pieces.specs.declared.Reader.{Reader}
 use Rattle.tag_pieces.specs.declared.Cursor.{Cursor}
-use Rattle.tag_pieces.specs.declared.Taken.{Taken}
-use Rattle.tag_pieces.specs.declared.Taken.TheVariants.{More, Gives, MoreKeys}
-use Rattle.tag_takes.specs.declared.Took.{Took}
-use Rattle.tag_takes.specs.declared.Took.TheVariants.{Read, WrongLength}
+use Rattle.tag_pieces.specs.declared.MoreKeys.{MoreKeys}
+use Rattle.tag_takes.specs.declared.TakesRead.{TakesRead}
+use Rattle.tag_takes.specs.declared.WrongLength.{WrongLength}
 use Rattle.tag_pieces.specs.Reader.{hold, iterator_of, take_of}
 
 -- the answers, the reader that they leave, and why there are no more: the end is *more* while the tag is not finished
@@ -31,10 +30,10 @@ abbrev pub takes : List Answer → Reader → Why → Takes
 takes answers r why = record { answers = answers; reader = r; why = why }
 
 -- one answer, and those after it
-unfoldable pub takes_by : Taken → Reader → Takes → Takes
-takes_by More r rest = takes [] r AtEnd
-takes_by MoreKeys r rest = takes [] r LendMore
-takes_by (Gives a) r rest = pick (is_end a) (takes [] r AtEnd) (takes (a ∷ rest.answers) rest.reader rest.why)
+unfoldable pub takes_by : Result (Option Answer) MoreKeys → Reader → Takes → Takes
+takes_by (Ok None) r rest = takes [] r AtEnd
+takes_by (Err m) r rest = takes [] r LendMore
+takes_by (Ok (Some a)) r rest = pick (is_end a) (takes [] r AtEnd) (takes (a ∷ rest.answers) rest.reader rest.why)
 
 unfoldable pub takes_of : ℕ → Reader → Takes
 takes_of zero r = takes [] r OutFull
@@ -83,10 +82,9 @@ emptied_at at =
       phase = Begin;
     }
 
--- how many answers a call gives, and why no more, or that a length is wrong
-pub data Counted : Type 0 where
-  Some : ℕ → Why → Counted
-  Wrong : Counted
+-- how many answers a call gives, and why no more; none where a length is wrong
+abbrev pub Counted : Type 0
+Counted = Option (ℕ × Why)
 
 -- what is handed back, and the reader and the output then
 pub record TakeEnd : Type 0 where
@@ -98,19 +96,19 @@ abbrev pub take_end : Counted → Reader → List ℕ → TakeEnd
 take_end counted r out = record { counted = counted; reader = r; out = out }
 
 -- the same of what the code hands back, to a reader that stood so before
-abbrev pub took_end : Took → Cursor → (text starts ends hashes out : List ℕ) → TakeEnd
-took_end (Read n left why) at text starts ends hashes out = take_end (Some n why) (lent_reader left text starts ends hashes) out
-took_end WrongLength at text starts ends hashes out = take_end Wrong (lent_reader at text starts ends hashes) out
+abbrev pub took_end : Result TakesRead WrongLength → Cursor → (text starts ends hashes out : List ℕ) → TakeEnd
+took_end (Ok x) at text starts ends hashes out = take_end (Some (x.answers, x.why)) (lent_reader x.cursor text starts ends hashes) out
+took_end (Err e) at text starts ends hashes out = take_end None (lent_reader at text starts ends hashes) out
 
 -- text and tables are no longer than they can be
 unfoldable pub lengths_lent : Reader → Bool
 lengths_lent r = leb (length r.text) hold && tables_lent (iterator_of r)
 
 unfoldable pub takes_shown : List ℕ → Takes → TakeEnd
-takes_shown out x = take_end (Some (length x.answers) x.why) x.reader (over out 0 (fives_of x.answers))
+takes_shown out x = take_end (Some (length x.answers, x.why)) x.reader (over out 0 (fives_of x.answers))
 
 unfoldable pub take_all_of : Reader → List ℕ → TakeEnd
-take_all_of r out = pick (lengths_lent r) (takes_shown out (takes_of (answers_room out) r)) (take_end Wrong r out)
+take_all_of r out = pick (lengths_lent r) (takes_shown out (takes_of (answers_room out) r)) (take_end None r out)
 
 -- The next step of an iterator looks at or past the end of what is held. After the finish that is no matter.
 unfoldable pub looks_past : Bool → List ℕ → IterState → Bool

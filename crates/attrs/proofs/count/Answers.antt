@@ -5,10 +5,10 @@ use Rattle.tag_batch.specs.Batch.{answers_room}
 use Rattle.attrs.specs.Count.{attrs_opened, attrs_answers}
 use Rattle.attrs.proofs.count.Goals as goal
 
-pub count_on-requires : goal.count_on-requires
+pub count-requires : goal.count-requires
 unfolding answers_room
-count_on-requires c = record { starts = refl; ends = refl; hashes = refl; room = refl }
+count-requires c = record { starts = refl; ends = refl; hashes = refl; room = refl }
 
 pub returns : goal.returns
 unfolding attrs_answers attrs_opened opened no_keys
-returns c = c.count_on.ensures
+returns c = c.count.ensures

@@ -6,4 +6,4 @@ use Rattle.attrs.specs.Output.{count_line}
 use Rattle.attrs.proofs.print.Goals as goal
 
 pub show-requires : goal.show-requires
-show-requires g c = record { short = c.requires; count = c.in_ok-show_count.ensures.ok ∙ ap (λ (n : ℕ). length (count_line n)) c.count-total.ensures }
+show-requires g c = rw c.in_ok-show_count.ensures.tag (record { short = c.requires; count = c.in_ok-show_count.ensures.ok ∙ ap (λ (n : ℕ). length (count_line n)) c.count-total.ensures })

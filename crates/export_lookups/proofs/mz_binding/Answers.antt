@@ -3,7 +3,8 @@ use mathlib.Core.Path.{ap, ◌∙◌}
 use Rattle.scope_table.specs.Lent.{lent}
 use Rattle.scope_table.specs.declared.Head.{Head}
 use Rattle.scope_listing.specs.Listing.{listing, bindings_of}
-use Rattle.scope_listing.specs.declared.Listed.TheVariants.{WrongLength}
+use Rattle.std.specs.Prelude.{Err}
+use Rattle.scope_table.specs.declared.FormError.TheVariants.{WrongLength}
 use Rattle.scope_listing.specs.declared.Listing.{Listing}
 use Rattle.export_lookups.specs.Listings.{listed_by}
 use Rattle.export_lookups.proofs.mz_binding.Goals as goal
@@ -13,4 +14,4 @@ returns c =
     let a = c.args in
     c.list.ensures
     ∙ ap (λ (x : Listing). listed_by x a.detail.now) c.bindings_in.ensures
-    ∙ ap (λ (x : Head). listed_by (lent (listing WrongLength a.place) (bindings_of a.place) a.text.now a.records.now x) a.detail.now) c.head_from-h.ensures
+    ∙ ap (λ (x : Head). listed_by (lent (listing (Err WrongLength) a.place) (bindings_of a.place) a.text.now a.records.now x) a.detail.now) c.head_from-h.ensures

@@ -10,9 +10,9 @@ returns-in_default c =
 pub returns-then-room-lt5 : goal.returns-then-room-lt5
 returns-then-room-lt5 c =
     let a = c.args in
-    take_no_room a.text.now a.starts.now a.ends.now a.hashes.now a.reader.now a.out.now a.html a.checks _ c.cursor_in-at.ensures _ _ _ _ _ c.take_in-took.ensures _ _ _ c.in-Read.is c.if-room-lt5.true
+    take_no_room a.text.now a.starts.now a.ends.now a.hashes.now a.reader.now a.out.now a.html a.checks _ c.cursor_in-at.ensures _ _ _ _ _ c.take_in-took.ensures _ c.in-Ok.is c.if-room-lt5.true
 
 pub returns : goal.returns
 returns c =
     let a = c.args in
-    take_leaves a.text.now a.starts.now a.ends.now a.hashes.now a.reader.now a.out.now a.html a.checks _ c.cursor_in-at.ensures _ _ _ _ _ c.take_in-took.ensures _ _ _ c.in-Read.is c.if-room-lt5.false _ c.settle.ensures
+    take_leaves a.text.now a.starts.now a.ends.now a.hashes.now a.reader.now a.out.now a.html a.checks _ c.cursor_in-at.ensures _ _ _ _ _ c.take_in-took.ensures _ c.in-Ok.is c.if-room-lt5.false _ c.settle.ensures

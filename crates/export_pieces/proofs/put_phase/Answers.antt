@@ -2,4 +2,4 @@
 use Rattle.export_pieces.proofs.put_phase.Goals as goal
 
 pub returns : goal.returns
-returns c = rw (c.phase_kind-kind.ensures, c.phase_start-start.ensures, c.phase_end-end.ensures)
+returns c = rw (c.phase_kind.ensures, c.phase_start.ensures, c.phase_end.ensures)

@@ -7,4 +7,4 @@ pub returns-then-same_place : goal.returns-then-same_place
 returns-then-same_place c = settled_same _ _ _ _ (sym c.same_place.ensures ∙ c.if-same_place.true)
 
 pub returns : goal.returns
-returns c = settled_other _ _ _ _ _ _ (sym c.same_place.ensures ∙ c.if-same_place.false) c.kind_of-kind.ensures c.position_of-position.ensures
+returns c = settled_other _ _ _ _ _ _ (sym c.same_place.ensures ∙ c.if-same_place.false) c.kind_of.ensures c.position_of.ensures

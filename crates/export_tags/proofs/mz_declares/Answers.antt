@@ -4,4 +4,4 @@ use Rattle.name.specs.Declares.{declares_number}
 use Rattle.export_tags.proofs.mz_declares.Goals as goal
 
 pub returns : goal.returns
-returns c = c.number.ensures ∙ ap declares_number c.as_namespace_binding.ensures
+returns c = c.declares_number.ensures ∙ ap declares_number c.as_namespace_binding.ensures

@@ -10,9 +10,9 @@ returns-in_default c =
 pub returns-then-room-lt5 : goal.returns-then-room-lt5
 returns-then-room-lt5 c =
     let a = c.args in
-    room_none a.tag.now a.starts.now a.ends.now a.hashes.now a.state.now a.out.now a.html a.checks c.place_from-place.result c.place_from-place.ensures c.read_batch-batch.result _ _ _ _ c.read_batch-batch.ensures _ _ _ _ c.in-Read.is c.if-room-lt5.true
+    room_none a.tag.now a.starts.now a.ends.now a.hashes.now a.state.now a.out.now a.html a.checks c.place_from-place.result c.place_from-place.ensures c.read_batch-batch.result _ _ _ _ c.read_batch-batch.ensures _ c.in-Ok.is c.if-room-lt5.true
 
 pub returns : goal.returns
 returns c =
     let a = c.args in
-    read_leaves a.tag.now a.starts.now a.ends.now a.hashes.now a.state.now a.out.now a.html a.checks c.place_from-place.result c.place_from-place.ensures c.read_batch-batch.result _ _ _ _ c.read_batch-batch.ensures _ _ _ _ c.in-Read.is c.if-room-lt5.false _ (settled _ _ c.settle.ensures c.number.ensures)
+    read_leaves a.tag.now a.starts.now a.ends.now a.hashes.now a.state.now a.out.now a.html a.checks c.place_from-place.result c.place_from-place.ensures c.read_batch-batch.result _ _ _ _ c.read_batch-batch.ensures _ c.in-Ok.is c.if-room-lt5.false _ (settled _ _ c.settle.ensures c.number.ensures)

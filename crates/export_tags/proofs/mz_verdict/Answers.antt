@@ -4,4 +4,4 @@ use Rattle.name.specs.Verdict.{verdict_number}
 use Rattle.export_tags.proofs.mz_verdict.Goals as goal
 
 pub returns : goal.returns
-returns c = c.number.ensures ∙ ap verdict_number c.verdict_of.ensures
+returns c = c.verdict_number.ensures ∙ ap verdict_number c.verdict_of.ensures

@@ -1,24 +1,19 @@
 -- `name::as_namespace_binding` meets its contract: each test decides one answer.
 use mathlib.Core.Path.{sym, ◌∙◌}
 use native.Mathlib.Omega.{arith}
-use lib.Seq.{length-take-le}
-use Rattle.name.proofs.Declared.{too_short, other_head, nothing_after, colon_after, other_after}
+use Rattle.name.proofs.Declared.{too_short, other_head, nothing_after, byte_after}
 use Rattle.name.proofs.as_namespace_binding.Goals as goal
+use Rattle.name.proofs.as_namespace_binding.Goals.{then-name-lt5-via-then-name-lt5, then-name-lt5-via-else-name-lt5+then-not-is_xmlns}
 
 pub returns-then-name-lt5 : goal.returns-then-name-lt5
-returns-then-name-lt5 c = too_short _ c.if-name-lt5.true
-
-pub slice_bounds-is_xmlns-end : goal.slice_bounds-is_xmlns-end
-slice_bounds-is_xmlns-end c = sym (length-take-le 5 c.args.name.now (omega arith))
-
-pub returns-then-not-is_xmlns : goal.returns-then-not-is_xmlns
-returns-then-not-is_xmlns c = other_head _ (sym c.is_xmlns.ensures ∙ c.if-not-is_xmlns.true)
+returns-then-name-lt5 c =
+    elim c.then-name-lt5.branch [
+      | then-name-lt5-via-then-name-lt5 w ↦ too_short _ w.if-name-lt5.true
+      | then-name-lt5-via-else-name-lt5+then-not-is_xmlns w ↦ other_head _ (sym w.is_xmlns.ensures ∙ w.if-not-is_xmlns.true)
+    ]
 
 pub returns-then-name-eq5 : goal.returns-then-name-eq5
 returns-then-name-eq5 c = nothing_after _ c.if-name-eq5.true (sym c.is_xmlns.ensures ∙ c.if-not-is_xmlns.false)
 
-pub returns-then-name-eq58 : goal.returns-then-name-eq58
-returns-then-name-eq58 c = colon_after _ (omega arith) (sym c.is_xmlns.ensures ∙ c.if-not-is_xmlns.false) c.if-name-eq58.true
-
 pub returns : goal.returns
-returns c = other_after _ (omega arith) c.if-name-eq58.false
+returns c = c.then_some.ensures ∙ byte_after _ (omega arith) (sym c.is_xmlns.ensures ∙ c.if-not-is_xmlns.false)

@@ -1,9 +1,11 @@
 -- `name::decompose` meets its contract: the code goes by where the first colon is.
-use Rattle.name.proofs.Split.{parts_at, parts_none}
+use Rattle.std.proofs.Common.{rules, arith}
+use Rattle.name.proofs.Split.{parts_told, colon_there}
 use Rattle.name.proofs.decompose.Goals as goal
 
-pub returns-then-at-name : goal.returns-then-at-name
-returns-then-at-name c = parts_at _ _ c.colon_at-at.ensures c.if-at-name.true
+pub map_or-requires : goal.map_or-requires
+map_or-requires c =
+    λ at e _ _. let t = colon_there c.args.name.now at (cc c.index-colon.ensures) in omega arith
 
-pub returns-else-at-name : goal.returns-else-at-name
-returns-else-at-name c = parts_none _ _ c.colon_at-at.ensures c.if-at-name.false
+pub returns : goal.returns
+returns c = parts_told _ _ _ c.index-colon.ensures (search rules)

@@ -6,4 +6,4 @@ use Rattle.reader.proofs.piece.Goals as goal
 
 pub returns : goal.returns
 unfolding piece_of
-returns c = ap (λ (x : Grown). numbered_feeding (fed_with c.args.r x)) c.piece_in-growth.ensures
+returns c = ap (λ (x : Grown). numbered_feeding (fed_with c.args.r x)) c.piece_in-fed.ensures

@@ -1,6 +1,5 @@
 -- `reader::take` meets its contract: 7, then more, then an answer.
 use mathlib.Core.Path.{sym, ap, ◌∙◌}
-use native.Mathlib.Omega.{arith}
 use lib.Seq.{length-take-le}
 use Rattle.reader.specs.Numbers.{numbered_take}
 use Rattle.reader.proofs.Ways.{take_bad, good_held, good_keys, take_more, take_answers}
@@ -8,11 +7,6 @@ use Rattle.reader.proofs.take.Goals as goal
 
 pub returns-then-not-good_in : goal.returns-then-not-good_in
 returns-then-not-good_in c = rw c.emptied.ensures (ap numbered_take (take_bad c.args.r (sym c.good_in.ensures ∙ c.if-not-good_in.true)))
-
-pub slice_bounds-text-end : goal.slice_bounds-text-end
-slice_bounds-text-end c =
-    let h = good_held c.args.r (sym c.good_in.ensures ∙ c.if-not-good_in.false) in
-    omega (arith, h)
 
 pub slice_bounds-waits_for-end : goal.slice_bounds-waits_for-end
 slice_bounds-waits_for-end c = sym (length-take-le _ _ (good_held c.args.r (sym c.good_in.ensures ∙ c.if-not-good_in.false)))

@@ -10,21 +10,21 @@ use Rattle.replay.proofs.same_numbers.Goals as goal
 pub loop-i-init : goal.loop-i-init
 loop-i-init c = (omega arith, refl)
 
-pub returns-then-numbers-i : goal.returns-then-numbers-i
-returns-then-numbers-i c =
+pub returns-then-n-number_at : goal.returns-then-n-number_at
+returns-then-n-number_at c =
     let ns = c.args.numbers.now in
     let ts = twos_of (length ns) c.args.recorded.now in
     let size = twos_length (length ns) c.args.recorded.now in
-    let here = twos_at (length ns) c.args.recorded.now c.loop-i.i c.loop-i-test.true in
-    sym (c.loop-i.invariant.1 ∙ same_off ns ts c.loop-i.i c.loop-i-test.true (omega arith) (λ e. c.if-numbers-i.true (e ∙ here ∙ sym c.number_at.ensures)))
+    let here = twos_at (length ns) c.args.recorded.now c.loop-i.i (omega arith) in
+    sym (c.loop-i.invariant.1 ∙ same_off ns ts c.loop-i.i (omega arith) (omega arith) (λ e. c.if-n-number_at.true (e ∙ here ∙ sym c.number_at.ensures)))
 
 pub loop-i-preserved : goal.loop-i-preserved
 loop-i-preserved c =
     let ns = c.args.numbers.now in
     let ts = twos_of (length ns) c.args.recorded.now in
     let size = twos_length (length ns) c.args.recorded.now in
-    let here = twos_at (length ns) c.args.recorded.now c.loop-i.i c.loop-i-test.true in
-    (omega arith, c.loop-i.invariant.1 ∙ same_on ns ts c.loop-i.i c.loop-i-test.true (omega arith) (c.if-numbers-i.false ∙ c.number_at.ensures ∙ sym here))
+    let here = twos_at (length ns) c.args.recorded.now c.loop-i.i (omega arith) in
+    (omega arith, c.loop-i.invariant.1 ∙ same_on ns ts c.loop-i.i (omega arith) (omega arith) (c.if-n-number_at.false ∙ c.number_at.ensures ∙ sym here))
 
 pub returns : goal.returns
 returns c =

@@ -1,5 +1,5 @@
--- `replay::same_numbers` meets its contract: what is left of both decides. The measure is what is left.
-use Prim.Native.Nat.{◌-◌, ◌≤◌}
+-- `replay::same_numbers` meets its contract: what is left of both decides.
+use Prim.Native.Nat.{◌≤◌}
 use mathlib.Core.Path.{◌≡◌}
 use lib.ListN.{length, drop}
 use Rattle.scan.specs.Bytes.{same_bytes}
@@ -9,6 +9,3 @@ use Rattle.replay.proofs.same_numbers.Given as goal
 abbrev pub invariant-loop-i : goal.invariant-loop-i
 invariant-loop-i l = (l.i ≤ length l.numbers)
     × (same_bytes l.numbers (twos_of (length l.numbers) l.recorded) ≡ same_bytes (drop l.i l.numbers) (drop l.i (twos_of (length l.numbers) l.recorded)))
-
-abbrev pub decreases-loop-i : goal.decreases-loop-i
-decreases-loop-i l = length l.numbers - l.i

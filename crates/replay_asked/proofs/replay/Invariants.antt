@@ -3,8 +3,8 @@ use Prim.Native.Nat.{◌-◌, ◌≤◌}
 use lib.ListN.{length}
 use Rattle.replay_asked.proofs.replay.Given as goal
 
-abbrev pub invariant-loop-at : goal.invariant-loop-at
-invariant-loop-at l = (l.at ≤ length l.records) × (l.count ≤ l.at)
+abbrev pub invariant-loop-run : goal.invariant-loop-run
+invariant-loop-run g l = (l.run.at ≤ length l.records) × (l.run.records ≤ l.run.at)
 
-abbrev pub decreases-loop-at : goal.decreases-loop-at
-decreases-loop-at l = length l.records - l.at
+abbrev pub decreases-loop-run : goal.decreases-loop-run
+decreases-loop-run g l = length l.records - l.run.at

@@ -1,7 +1,6 @@
 -- The numbers of what is shown tell it apart, and the place is where the iterator then stands.
 use Rattle.std.proofs.Common.{◌≡◌, ap, ◌∙◌}
-use Rattle.scope_listing.specs.Listing.{listing, listed_numbers, bindings_of}
-use Rattle.scope_listing.specs.declared.Listed.{Listed}
+use Rattle.scope_listing.specs.Listing.{Listed, listing, listed_numbers, bindings_of}
 use Rattle.scope_listing.proofs.Numbers.{listed_apart}
 use Rattle.scope_listing_carried.specs.Listings.{listed_on, after_shown}
 use Rattle.scope_listing_carried.specs.declared.NamespaceBindingsIter.{NamespaceBindingsIter}

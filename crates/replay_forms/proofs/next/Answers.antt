@@ -1,6 +1,6 @@
 -- The numbers of an answer tell it apart, and the state is the one that the iterator is left in.
 use Rattle.std.proofs.Common.{◌≡◌, ap, ◌∙◌}
-use Rattle.tag_step.specs.declared.Answer.{Answer}
+use Rattle.tag_step.specs.Answer.{Answer}
 use Rattle.tag_step.specs.declared.Step.{Step}
 use Rattle.tag_step.specs.Next.{next_of}
 use Rattle.tag_step.specs.Numbers.{numbers_of}

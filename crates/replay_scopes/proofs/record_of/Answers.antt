@@ -5,12 +5,12 @@ use Rattle.replay_scopes.proofs.Laws.{whole_fits}
 use Rattle.replay_scopes.proofs.record_of.Goals as goal
 
 pub turn_of-requires : goal.turn_of-requires
-turn_of-requires c = whole_fits c.args.rest.now (sym c.lengths_of-lengths.ensures ∙ c.in-Whole.is)
+turn_of-requires g c = whole_fits c.args.rest.now (sym c.lengths_of-lengths.ensures ∙ c.in-Some.is)
 
-pub returns-in-Whole : goal.returns-in-Whole
+pub returns-in-Some : goal.returns-in-Some
 unfolding turn_at call_record_of
-returns-in-Whole c = rw (sym c.lengths_of-lengths.ensures ∙ c.in-Whole.is) c.turn_of.ensures
+returns-in-Some g c = rw (sym c.lengths_of-lengths.ensures ∙ c.in-Some.is) c.turn_of.ensures
 
-pub returns-in-Cut : goal.returns-in-Cut
+pub returns-in-None : goal.returns-in-None
 unfolding turn_at call_record_of
-returns-in-Cut c = rw (sym c.lengths_of-lengths.ensures ∙ c.in-Cut.is)
+returns-in-None g c = rw (sym c.lengths_of-lengths.ensures ∙ c.in-None.is)

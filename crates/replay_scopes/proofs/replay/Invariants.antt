@@ -7,7 +7,7 @@ use Rattle.replay_scopes.specs.Replay.{call_record_of}
 use Rattle.replay_scopes.proofs.replay.Given as goal
 
 abbrev pub invariant-loop-run : goal.invariant-loop-run
-invariant-loop-run l = Stands (λ x rest. (call_record_of x rest).step) (λ x rest. (call_record_of x rest).resolver) l.records fresh_of l.resolver l.run
+invariant-loop-run g l = Stands (λ x rest. (call_record_of x rest).step) (λ x rest. (call_record_of x rest).resolver) l.records fresh_of l.resolver l.run
 
 abbrev pub decreases-loop-run : goal.decreases-loop-run
-decreases-loop-run l = length l.records - l.run.at
+decreases-loop-run g l = length l.records - l.run.at

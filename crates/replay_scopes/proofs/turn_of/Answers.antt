@@ -7,4 +7,4 @@ use Rattle.replay_scopes.proofs.turn_of.Goals as goal
 
 pub returns : goal.returns
 unfolding turn_of part
-returns c = c.held_to.ensures ∙ rw (c.make_by-made.ensures, c.call_of.ensures, c.two_at.ensures, c.two_at-2.ensures, to_end)
+returns g c = c.held_to.ensures ∙ rw (c.make-made.ensures, c.call_of.ensures, c.two_at.ensures, c.two_at-2.ensures, to_end)

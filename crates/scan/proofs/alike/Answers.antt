@@ -2,18 +2,14 @@
 use Prim.Native.Nat.{ℕ, ◌<◌}
 use native.Mathlib.Omega.{arith}
 use lib.ListN.{get_or}
-use lib.Count.{trailing_le}
 use Rattle.scan.proofs.Words.{eight_alike}
 use Rattle.scan.proofs.alike.Goals as goal
-
-pub eighth-requires : goal.eighth-requires
-eighth-requires c = trailing_le 64 _
 
 pub returns : goal.returns
 returns c =
     let a = c.args in
     let f : ℕ → ℕ = λ k. get_or a.x.now k 0 in
     let g : ℕ → ℕ = λ k. get_or a.y.now k 0 in
-    let sf : (k : ℕ) → f k < 256 = λ k. omega (arith, c.shared_slice_known-1.given k) in
-    let sg : (k : ℕ) → g k < 256 = λ k. omega (arith, c.shared_slice_known-2-1.given k) in
+    let sf : (k : ℕ) → f k < 256 = λ k. omega (arith, c.type_inv.x k) in
+    let sg : (k : ℕ) → g k < 256 = λ k. omega (arith, c.type_inv.y k) in
     rw (c.eighth.ensures.0, c.word.ensures, c.word-2.ensures) (eight_alike f g sf sg a.i 0)

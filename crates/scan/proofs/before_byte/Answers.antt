@@ -2,18 +2,14 @@
 use Prim.Native.Nat.{ℕ, ◌<◌}
 use native.Mathlib.Omega.{arith}
 use lib.ListN.{get_or}
-use lib.Count.{trailing_le}
 use Rattle.scan.proofs.Second.{marked_first}
 use Rattle.scan.proofs.before_byte.Goals as goal
-
-pub eighth-requires : goal.eighth-requires
-eighth-requires c = trailing_le 64 _
 
 pub returns : goal.returns
 returns c =
     let a = c.args in
     let f : ℕ → ℕ = λ k. get_or a.tag.now k 0 in
-    let small : (k : ℕ) → f k < 256 = λ k. omega (arith, c.shared_slice_known-1.given k) in
+    let small : (k : ℕ) → f k < 256 = λ k. omega (arith, c.type_inv.tag k) in
     let b : a.b < 256 = omega arith in (
       marked_first f a.b small b _ _ a.i c.marks_of.ensures c.eighth.ensures.0,
       c.eighth.ensures.1,

@@ -9,6 +9,6 @@ pub returns : goal.returns
 returns c =
     let a = c.args in
     let f : ℕ → ℕ = λ k. get_or a.tag.now k 0 in
-    let small : (k : ℕ) → f k < 256 = λ k. omega (arith, c.shared_slice_known-1.given k) in
+    let small : (k : ℕ) → f k < 256 = λ k. omega (arith, c.type_inv.tag k) in
     let b : a.b < 256 = omega arith in
     rw (c.zero_marks.ensures, c.word.ensures, c.in_each_byte.ensures) (word_marks f a.b small b a.i)

@@ -1,9 +1,9 @@
--- `scan::word` meets its contract: two halves of four bytes.
-use lib.ListN.{get_or}
-use Rattle.scan.proofs.Marks.{two_halves}
+-- `scan::word` meets its contract: the eight bytes from i on, the first lowest.
+use Rattle.std.proofs.Common.{◌∙◌}
+use Rattle.scan.proofs.Marks.{eight_bytes}
 use Rattle.scan.proofs.word.Goals as goal
 
 pub returns : goal.returns
 returns c =
-    let a = c.args in
-    two_halves (λ k. get_or a.tag.now k 0) a.i c.half_word.ensures.0 c.half_word-2.ensures.0
+    let chunk = rw c.unwrap.ensures at c.as_array.ensures.cases in
+    c.from_le_bytes.ensures ∙ eight_bytes c.args.tag.now c.args.i c.unwrap.result.now chunk.same

@@ -3,10 +3,11 @@ use Rattle.std.proofs.Common.{rules}
 use mathlib.Core.Path.{ap, ◌∙◌}
 use Rattle.scope_table.proofs.Full.{full_asks}
 use Rattle.scope_listing.specs.Listing.{listing, numbered_listing, bindings_of}
-use Rattle.scope_listing.specs.declared.Listed.TheVariants.{WrongLength}
+use Rattle.std.specs.Prelude.{Err}
+use Rattle.scope_table.specs.declared.FormError.TheVariants.{WrongLength}
 use Rattle.scope_listing.proofs.bindings.Goals as goal
 
 pub returns : goal.returns
 returns c =
     let a = c.args in
-    ap numbered_listing (c.bindings_in.ensures ∙ full_asks a.r.text a.r.records a.r.head (search rules) (search rules) (listing WrongLength a.place) (bindings_of a.place))
+    ap numbered_listing (c.bindings_in.ensures ∙ full_asks a.r.text a.r.records a.r.head (search rules) (search rules) (listing (Err WrongLength) a.place) (bindings_of a.place))

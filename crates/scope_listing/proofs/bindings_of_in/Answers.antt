@@ -1,41 +1,42 @@
 -- `scope_listing::bindings_of_in` meets its contract: the test, then the listing.
-use Prim.Native.Nat.{ℕ}
-use mathlib.Core.Path.{sym, ap, ◌∙◌}
+use Prim.Native.Nat.{ℕ, ◌≤◌}
+use mathlib.Core.Path.{◌≡◌, sym, ap, ◌∙◌}
 use lib.ListN.{length}
+use Rattle.std.specs.Prelude.{Option}
 use Rattle.scope_table.specs.Records.{record_at}
+use Rattle.scope_table.specs.Table.{TEXT}
 use Rattle.scope_table.proofs.Good.{ready}
-use Rattle.scope_table.proofs.Calls.{asks_wrong}
-use Rattle.scope_lookup.proofs.Laws.{widest}
+use Rattle.scope_lookup.specs.Lookup.{counted}
+use Rattle.scope_lookup.proofs.Laws.{fewer, widest}
 use Rattle.scope_lookup.proofs.Padded.{ready_inside}
-use Rattle.scope_listing.specs.Listing.{listing, listed_at, bindings_at_of}
-use Rattle.scope_listing.specs.declared.Listed.TheVariants.{WrongLength}
-use Rattle.scope_listing.proofs.Padded.{ready_rising, level_bad, level_good}
+use Rattle.scope_listing.specs.Listing.{at_level, found_to, shown_at}
+use Rattle.scope_listing.proofs.Laws.{found_within, found_shown}
+use Rattle.scope_listing.proofs.Padded.{ready_rising, level_refused, level_good}
 use Rattle.scope_listing.proofs.bindings_of_in.Goals as goal
 
-pub returns-in-Bad : goal.returns-in-Bad
-returns-in-Bad c =
+pub returns-in-Err : goal.returns-in-Err
+returns-in-Err c =
     let a = c.args in
-    c.unlisted.ensures ∙ level_bad a.text.now a.records.now a.head a.place a.asked (sym c.in-Bad.ensures)
-
-pub returns-in-WrongLength : goal.returns-in-WrongLength
-returns-in-WrongLength c =
-    let a = c.args in
-    c.unlisted-in-WrongLength.ensures ∙ sym (asks_wrong a.text.now a.records.now a.head (listing WrongLength a.place) (bindings_at_of a.asked a.place) (sym c.in-WrongLength.ensures))
+    level_refused a.text.now a.records.now a.head a.place a.asked c.in-Err.why (sym c.form_in.ensures ∙ c.in-Err.is)
 
 pub first_at_level-found-requires : goal.first_at_level-found-requires
 first_at_level-found-requires c =
     let a = c.args in
-    ready_rising a.text.now a.records.now a.head (ready a.text.now a.records.now a.head (sym c.in-Good.ensures))
+    ready_rising a.text.now a.records.now a.head (ready a.text.now a.records.now a.head (sym c.form_in.ensures ∙ c.in_default.is))
 
 pub shown-requires : goal.shown-requires
 shown-requires c =
     let a = c.args in
-    let y = ready a.text.now a.records.now a.head (sym c.in-Good.ensures) in
-    widest a.records.now a.head.count (length a.text.now) (ready_inside a.text.now a.records.now a.head y)
+    let y = ready a.text.now a.records.now a.head (sym c.form_in.ensures ∙ c.in_default.is) in
+    let found : c.first_at_level-found.result ≡ found_to (λ i. at_level a.asked (record_at a.records.now i)) a.place a.head.count = c.first_at_level-found.ensures in
+    let below : counted c.first_at_level-found.result ≤ a.head.count = rw found (found_within (λ i. at_level a.asked (record_at a.records.now i)) a.place a.head.count) in
+    fewer a.records.now (counted c.first_at_level-found.result) a.head.count TEXT below (widest a.records.now a.head.count (length a.text.now) (ready_inside a.text.now a.records.now a.head y))
 
 pub returns : goal.returns
 returns c =
     let a = c.args in
+    let found : c.first_at_level-found.result ≡ found_to (λ i. at_level a.asked (record_at a.records.now i)) a.place a.head.count = c.first_at_level-found.ensures in
     c.shown.ensures
-    ∙ ap (λ (found : ℕ). listed_at (record_at a.records.now) a.head.count found a.place) c.first_at_level-found.ensures
-    ∙ level_good a.text.now a.records.now a.head a.place a.asked (sym c.in-Good.ensures)
+    ∙ ap (λ (f : Option ℕ). shown_at (record_at a.records.now) f a.place) found
+    ∙ found_shown (λ i. at_level a.asked (record_at a.records.now i)) a.place a.head.count (record_at a.records.now) a.place
+    ∙ level_good a.text.now a.records.now a.head a.place a.asked (sym c.form_in.ensures ∙ c.in_default.is)

@@ -1,19 +1,15 @@
 -- `scope_listing::first_at_level` meets its contract: the answer from `from` is the answer from i, and past a higher level
--- there is none. The measure is what is left.
-use Prim.Native.Nat.{ℕ, ◌-◌}
+-- there is none.
+use Prim.Native.Nat.{ℕ}
 use mathlib.Core.Path.{◌≡◌}
 use mathlib.Core.Bool.{Bool}
 use mathlib.Core.List.{List}
-use Rattle.scan.specs.First.{first_to}
 use Rattle.scope_table.specs.Records.{record_at}
-use Rattle.scope_listing.specs.Listing.{at_level}
+use Rattle.scope_listing.specs.Listing.{found_to, at_level}
 use Rattle.scope_listing.proofs.first_at_level.Given as goal
 
 abbrev pub passes : (records : List ℕ) (asked i : ℕ) → Bool
 passes records asked i = at_level asked (record_at records i)
 
 abbrev pub invariant-loop-i : goal.invariant-loop-i
-invariant-loop-i l = first_to (passes l.records l.asked) l.from l.count ≡ first_to (passes l.records l.asked) l.i l.count
-
-abbrev pub decreases-loop-i : goal.decreases-loop-i
-decreases-loop-i l = l.count - l.i
+invariant-loop-i l = found_to (passes l.records l.asked) l.from l.count ≡ found_to (passes l.records l.asked) l.i l.count

@@ -1,18 +1,16 @@
--- `scope_listing::first_with` meets its contract: the answer from `from` is the answer from i. The measure is what is left.
+-- `scope_listing::first_with` meets its contract: the answer from `from` is the answer from i.
 use Prim.Native.Nat.{ℕ}
 use mathlib.Core.Path.{sym, ap, ◌∙◌}
 use mathlib.Core.List.{List}
 use lib.ListN.{length}
 use Rattle.scan.specs.Bytes.{same_bytes}
-use Rattle.scan.proofs.Laws.{to_hit, to_miss, to_past}
+use Rattle.scope_listing.proofs.Laws.{found_hit, found_miss, found_past}
 use Rattle.scope_table.specs.Records.{prefix_in}
 use Rattle.scope_table.specs.declared.NamespaceBinding.{NamespaceBinding}
 use Rattle.scope_lookup.specs.Lookup.{has_prefix}
 use Rattle.scope_lookup.proofs.Laws.{row_lent, record_ends}
 use Rattle.scope_listing.proofs.first_with.Invariants.{passes}
 use Rattle.scope_listing.proofs.first_with.Goals as goal
-
--- the test that is searched with
 
 pub record_at-b-requires : goal.record_at-b-requires
 record_at-b-requires c =
@@ -28,7 +26,7 @@ returns-then-same c =
     let a = c.args in
     let r = c.record_at-b in
     let e = ap (λ (b : NamespaceBinding). same_bytes (prefix_in a.text.now b) a.prefix.now) (sym r.ensures) ∙ ap (λ (p : List ℕ). same_bytes p a.prefix.now) (sym c.prefix.ensures) ∙ sym c.same.ensures ∙ c.if-same.true in
-    sym (c.loop-i.invariant ∙ to_hit (passes a.text.now a.records.now a.prefix.now) c.loop-i.i a.count c.loop-i-test.true e)
+    sym (c.loop-i.invariant ∙ found_hit (passes a.text.now a.records.now a.prefix.now) c.loop-i.i a.count c.loop-i-test.true e)
 
 pub loop-i-preserved : goal.loop-i-preserved
 unfolding has_prefix
@@ -36,7 +34,7 @@ loop-i-preserved c =
     let a = c.args in
     let r = c.record_at-b in
     let e = ap (λ (b : NamespaceBinding). same_bytes (prefix_in a.text.now b) a.prefix.now) (sym r.ensures) ∙ ap (λ (p : List ℕ). same_bytes p a.prefix.now) (sym c.prefix.ensures) ∙ sym c.same.ensures ∙ c.if-same.false in
-    c.loop-i.invariant ∙ to_miss (passes a.text.now a.records.now a.prefix.now) c.loop-i.i a.count c.loop-i-test.true e
+    c.loop-i.invariant ∙ found_miss (passes a.text.now a.records.now a.prefix.now) c.loop-i.i a.count c.loop-i-test.true e
 
 pub returns : goal.returns
-returns c = sym (c.loop-i.invariant ∙ to_past _ _ _ c.loop-i-test.false)
+returns c = sym (c.loop-i.invariant ∙ found_past _ _ _ c.loop-i-test.false)

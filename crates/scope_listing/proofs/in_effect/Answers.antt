@@ -1,8 +1,9 @@
 -- `scope_listing::in_effect` meets its contract: no later record has the prefix exactly if the search for one runs past the
 -- last.
 use Prim.Native.Nat.{ℕ, ◌+◌}
-use mathlib.Core.Path.{◌≡◌, sym, ap, ◌∙◌}
-use mathlib.Core.Bool.{true, not}
+use mathlib.Core.Path.{sym, ap, ◌∙◌}
+use mathlib.Core.Bool.{Bool, not}
+use Rattle.std.specs.Prelude.{Option, is_some}
 use mathlib.Core.List.{List}
 use borrow.Author.Tests.{eq-eqb, ne_eqb}
 use lib.Dec.{ltb}
@@ -13,7 +14,7 @@ use Rattle.scope_table.specs.declared.NamespaceBinding.{NamespaceBinding}
 use Rattle.scope_lookup.specs.Lookup.{has_prefix}
 use Rattle.scope_lookup.proofs.Laws.{row_lent, record_ends}
 use Rattle.scope_listing.specs.Listing.{has_value, is_overridden, in_effect}
-use Rattle.scope_listing.proofs.Laws.{and_not, leb_not}
+use Rattle.scope_listing.proofs.Laws.{found_none}
 use Rattle.scope_listing.proofs.in_effect.Goals as goal
 
 pub record_at-b-requires : goal.record_at-b-requires
@@ -37,8 +38,8 @@ unfolding in_effect is_overridden has_value
 returns c =
     let a = c.args in
     let r = c.record_at-b in
-    let v : has_value (record_at a.records.now a.i) ≡ true = ap not (ne_eqb _ _ (λ e. c.if-b-eq0.false (ap (λ (b : NamespaceBinding). b.value_len) r.ensures ∙ e))) in
+    let like : List ℕ → ℕ → Bool = λ (p : List ℕ) (j : ℕ). has_prefix a.text.now p (record_at a.records.now j) in
     let q = c.prefix.ensures ∙ ap (prefix_in a.text.now) r.ensures in
-    leb_not c.first_with.result a.count
-    ∙ ap (λ (f : ℕ). not (ltb f a.count)) (c.first_with.ensures ∙ ap (λ (p : List ℕ). first_to (λ j. has_prefix a.text.now p (record_at a.records.now j)) (a.i + 1) a.count) q)
-    ∙ sym (and_not (has_value (record_at a.records.now a.i)) (is_overridden a.text.now (record_at a.records.now) a.count a.i) v)
+    rw (ne_eqb (record_at a.records.now a.i).value_len 0 (λ e. c.if-b-eq0.false (ap (λ (b : NamespaceBinding). b.value_len) r.ensures ∙ e)))
+    (found_none (like c.prefix.result.now) (a.i + 1) a.count c.is_none.result (ap (λ (f : Option ℕ). is_some f) (sym c.first_with.ensures) ∙ c.is_none.ensures)
+    ∙ ap (λ (p : List ℕ). not (ltb (first_to (like p) (a.i + 1) a.count) a.count)) q)

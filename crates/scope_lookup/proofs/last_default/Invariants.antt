@@ -1,5 +1,5 @@
--- `scope_lookup::last_default` meets its contract: the last of all records is the last of the first i. The measure is i.
-use Prim.Native.Nat.{ℕ, ◌≤◌}
+-- `scope_lookup::last_default` meets its contract: the last of all records is the last of the first i.
+use Prim.Native.Nat.{ℕ}
 use mathlib.Core.Path.{◌≡◌}
 use mathlib.Core.Bool.{Bool}
 use mathlib.Core.List.{List}
@@ -12,7 +12,4 @@ abbrev pub passes : (records : List ℕ) (i : ℕ) → Bool
 passes records i = is_default (record_at records i)
 
 abbrev pub invariant-loop-i : goal.invariant-loop-i
-invariant-loop-i l = (l.i ≤ l.count) × (last_below (passes l.records) l.count ≡ last_below (passes l.records) l.i)
-
-abbrev pub decreases-loop-i : goal.decreases-loop-i
-decreases-loop-i l = l.i
+invariant-loop-i l = last_below (passes l.records) l.count ≡ last_below (passes l.records) l.i

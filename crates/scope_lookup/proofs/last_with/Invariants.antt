@@ -1,5 +1,5 @@
--- `scope_lookup::last_with` meets its contract: the last of all records is the last of the first i. The measure is i.
-use Prim.Native.Nat.{ℕ, ◌≤◌}
+-- `scope_lookup::last_with` meets its contract: the last of all records is the last of the first i.
+use Prim.Native.Nat.{ℕ}
 use mathlib.Core.Path.{◌≡◌}
 use mathlib.Core.Bool.{Bool}
 use mathlib.Core.List.{List}
@@ -13,7 +13,4 @@ abbrev pub passes : (text records name : List ℕ) (len i : ℕ) → Bool
 passes text records name len i = has_prefix text (take len name) (record_at records i)
 
 abbrev pub invariant-loop-i : goal.invariant-loop-i
-invariant-loop-i l = (l.i ≤ l.count) × (last_below (passes l.text l.records l.name l.len) l.count ≡ last_below (passes l.text l.records l.name l.len) l.i)
-
-abbrev pub decreases-loop-i : goal.decreases-loop-i
-decreases-loop-i l = l.i
+invariant-loop-i l = last_below (passes l.text l.records l.name l.len) l.count ≡ last_below (passes l.text l.records l.name l.len) l.i

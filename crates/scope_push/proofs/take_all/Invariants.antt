@@ -13,10 +13,10 @@ use Rattle.scope_push.proofs.Run.{Kept}
 use Rattle.scope_push.proofs.Turns.{declarations_at}
 use Rattle.scope_push.proofs.take_all.Given as goal
 
-abbrev pub invariant-loop-key : goal.invariant-loop-key
-invariant-loop-key l = Kept l.initial.text l.initial.records l.text l.records l.left
+abbrev pub invariant-loop-found : goal.invariant-loop-found
+invariant-loop-found l = Kept l.initial.text l.initial.records l.text l.records l.left
     × (place_good l.tag l.place ≡ true)
     × (one_by_one whole (tag_declarations l.tag l.from) l.initial.text l.initial.records l.initial.left ≡ one_by_one whole (declarations_at l.tag l.place) l.text l.records l.left)
 
-abbrev pub decreases-loop-key : goal.decreases-loop-key
-decreases-loop-key l = todo (length l.tag) (recover_of l.tag l.place)
+abbrev pub decreases-loop-found : goal.decreases-loop-found
+decreases-loop-found l = todo (length l.tag) (recover_of l.tag l.place)

@@ -1,5 +1,5 @@
 -- `scope_table::in_order` meets its contract: `at` is the text of the i records passed, each of which starts where those before it
--- end, and `before` is the level of the last of them. The measure is what is left.
+-- end, and `before` is the level of the last of them.
 use mathlib.Core.Path.{◌≡◌, refl, sym, ap, ◌∙◌}
 use native.Mathlib.Omega.{arith}
 use lib.Dec.{leb}
@@ -56,13 +56,13 @@ pub returns-then-at-used : goal.returns-then-at-used
 returns-then-at-used c =
     let l = c.loop-i in
     let a = c.args in
-    sym (and_fail _ (sym (chain_all (record_at a.records.now) a.used a.count l.i l.at (omega arith) l.invariant.2 l.invariant.4) ∙ ne_eqb _ _ c.if-at-used.true))
-
-pub returns : goal.returns
-returns c =
-    let l = c.loop-i in
-    let a = c.args in
     let rows = record_at a.records.now in
     let e : l.i ≡ a.count = omega arith in
-    let chained = sym (chain_all rows a.used a.count l.i l.at e l.invariant.2 l.invariant.4) ∙ eq-eqb _ _ c.if-at-used.false in
+    let chained = sym (chain_all rows a.used a.count l.i l.at e l.invariant.2 l.invariant.4) ∙ eq-eqb _ _ c.if-at-used.true in
     ap (λ x. leb x a.top) (l.invariant.3 ∙ ap (level_before rows) e) ∙ rise_all rows a.count a.top (rw (sym e) l.invariant.5) ∙ sym (and_take chained refl)
+
+pub returns-else-at-used : goal.returns-else-at-used
+returns-else-at-used c =
+    let l = c.loop-i in
+    let a = c.args in
+    ne_eqb _ _ c.if-at-used.false ∙ sym (and_fail _ (sym (chain_all (record_at a.records.now) a.used a.count l.i l.at (omega arith) l.invariant.2 l.invariant.4) ∙ ne_eqb _ _ c.if-at-used.false))

@@ -5,5 +5,5 @@ use Rattle.tag_batch.proofs.after_seven.Goals as goal
 pub returns-then-room-lt10 : goal.returns-then-room-lt10
 returns-then-room-lt10 c = rw (lt-ltb _ _ c.if-room-lt10.true)
 
-pub returns : goal.returns
-returns c = rw (le-ltb _ _ c.if-room-lt10.false)
+pub returns-else-room-lt10 : goal.returns-else-room-lt10
+returns-else-room-lt10 c = rw (le-ltb _ _ c.if-room-lt10.false)

@@ -1,69 +1,52 @@
--- `tag_batch::read_good` meets its contract: the whole batch is what is written so far and the batch of what is left. The measure
--- is the room that is left.
-use mathlib.Core.Path.{refl, ap}
+-- `tag_batch::read_good` meets its contract: the whole batch is what is written so far and the batch of what is left.
+use mathlib.Core.Path.{refl, ap, ◌∙◌}
 use native.Mathlib.Omega.{arith}
-use lib.ListN.{length}
-use Rattle.scan.proofs.Lists.{over_length}
+use Rattle.std.specs.Prelude.{Result}
 use Rattle.tag_step.specs.Next.{keys_lent, lent_state, stands_at, state_good}
 use Rattle.tag_step.proofs.Whole.{good_inside}
-use Rattle.tag_batch.specs.Batch.{listed}
-use Rattle.tag_batch.proofs.Turns.{runs, turn_first, goes_full, goes_short, goes_end, goes_on, goes_sieve, code_end, code_other, room_fits}
+use Rattle.tag_batch.specs.declared.BatchRead.{BatchRead}
+use Rattle.tag_batch.specs.declared.WrongTables.{WrongTables}
+use Rattle.tag_batch.specs.declared.Why.TheVariants.{OutFull}
+use Rattle.tag_batch.specs.Batch.{batched}
+use Rattle.tag_batch.proofs.Turns.{runs, turn_first, goes_full, goes_short, goes_end, goes_on, goes_sieve, code_end, code_other, left_is}
 use Rattle.tag_batch.proofs.read_good.Goals as goal
 
--- the tables and the sieve are as long as at first
-
-pub loop-out-init : goal.loop-out-init
-loop-out-init c =
-    (omega arith, turn_first c.args.tag.now (runs c.args.tag.now) (stands_at c.args.at c.args.starts.now c.args.ends.now c.args.hashes.now) c.args.out.now c.requires.ripe, c.requires.sieve_of, record { starts = refl; ends = refl; hashes = refl; sieve = refl })
-
-pub overflow_sub-out : goal.overflow_sub-out
-overflow_sub-out c = omega (arith, room_fits _ _ c.loop-out.invariant.1.fits, c.loop-out.invariant.1.size)
-
-pub step_in-step-requires : goal.step_in-step-requires
-unfolding state_good
-step_in-step-requires c =
+pub loop-n-init : goal.loop-n-init
+loop-n-init c =
     let a = c.args in
-    let l = c.loop-out in
-    record { keys_in = good_inside a.tag.now (keys_lent l.starts l.ends l.hashes l.recorded) l.stand l.invariant.1.ripe.good; sieve_of = l.invariant.2 }
+    (refl, refl, turn_first a.tag.now (runs a.tag.now) (stands_at a.at a.starts.now a.ends.now a.hashes.now) a.out.now c.requires.ripe, c.requires.sieve_of)
+
+pub step_in-step-requires-clause-keys_in : goal.step_in-step-requires-clause-keys_in
+unfolding state_good
+step_in-step-requires-clause-keys_in c =
+    let l = c.loop-n in
+    good_inside c.args.tag.now (keys_lent l.starts l.ends l.hashes l.left.count) l.left.place l.invariant.2.ripe.good
 
 pub returns-in_default : goal.returns-in_default
 returns-in_default c =
     let a = c.args in
-    let l = c.loop-out in
-    goes_short a.tag.now (stands_at a.at a.starts.now a.ends.now a.hashes.now) a.out.now l.n l.stand a.at.html a.at.checks l.starts l.ends l.hashes l.recorded l.out l.invariant.1 (omega (arith, l.invariant.0)) c.step_in-step.result _ _ _ c.step_in-step.ensures.0 c.in_default.is
+    let l = c.loop-n in
+    rw l.invariant.0 (goes_short a.tag.now (stands_at a.at a.starts.now a.ends.now a.hashes.now) a.out.now l.n l.left.place a.at.html a.at.checks l.starts l.ends l.hashes l.left.count l.out l.invariant.2 (omega (arith, c.loop-n-test.true, l.invariant.2.size)) c.step_in-step.result _ _ _ c.step_in-step.ensures.0 c.in_default.is)
 
 pub returns-then-x-eq0 : goal.returns-then-x-eq0
 returns-then-x-eq0 c =
     let a = c.args in
-    let l = c.loop-out in
-    goes_end a.tag.now (stands_at a.at a.starts.now a.ends.now a.hashes.now) a.out.now l.n l.stand a.at.html a.at.checks l.starts l.ends l.hashes l.recorded l.out l.invariant.1 (omega (arith, l.invariant.0)) c.step_in-step.result _ _ _ c.step_in-step.ensures.0 _ c.in-Made.is (code_end _ c.numbers-x.result c.numbers-x.ensures c.if-x-eq0.true)
+    let l = c.loop-n in
+    rw l.invariant.0 (goes_end a.tag.now (stands_at a.at a.starts.now a.ends.now a.hashes.now) a.out.now l.n l.left.place a.at.html a.at.checks l.starts l.ends l.hashes l.left.count l.out l.invariant.2 (omega (arith, c.loop-n-test.true, l.invariant.2.size)) c.step_in-step.result _ _ _ c.step_in-step.ensures.0 _ c.in-Some.is (code_end _ c.numbers-x.result c.numbers-x.ensures c.if-x-eq0.true))
 
-pub overflow_add-end : goal.overflow_add-end
-overflow_add-end c = omega (arith, c.loop-out.invariant.0, c.loop-out.invariant.1.size, c.loop-out-test.true, c.well_formed)
-
-pub overflow_add-n : goal.overflow_add-n
-overflow_add-n c = omega (arith, c.loop-out.invariant.0, c.loop-out.invariant.1.size, c.loop-out-test.true, c.well_formed)
-
-pub loop-out-smaller : goal.loop-out-smaller
-loop-out-smaller c = omega (arith, ap length c.put.ensures, over_length c.loop-out.out c.loop-out.end (listed c.numbers-x.result) (omega arith))
-
-pub loop-out-preserved : goal.loop-out-preserved
-loop-out-preserved c =
+pub loop-n-preserved : goal.loop-n-preserved
+loop-n-preserved c =
     let a = c.args in
-    let l = c.loop-out in (
-      omega (arith, l.invariant.0),
-      rw (c.put.ensures, c.numbers-x.ensures, l.invariant.0) (goes_on a.tag.now (stands_at a.at a.starts.now a.ends.now a.hashes.now) a.out.now l.n l.stand a.at.html a.at.checks l.starts l.ends l.hashes l.recorded l.out l.invariant.1 (omega (arith, l.invariant.0, c.loop-out-test.true)) c.step_in-step.result _ _ _ c.step_in-step.ensures.0 _ c.in-Made.is (code_other _ c.numbers-x.result c.numbers-x.ensures c.if-x-eq0.false)),
-      goes_sieve _ _ _ _ _ _ c.step_in-step.ensures.1 _ c.in-Made.is,
-      record {
-        starts = omega (arith, l.invariant.3.starts);
-        ends = omega (arith, l.invariant.3.ends);
-        hashes = omega (arith, l.invariant.3.hashes);
-        sieve = omega (arith, l.invariant.3.sieve);
-      },
+    let l = c.loop-n in (
+      refl,
+      l.invariant.1,
+      rw (c.put.ensures, c.numbers-x.ensures) (goes_on a.tag.now (stands_at a.at a.starts.now a.ends.now a.hashes.now) a.out.now l.n l.left.place a.at.html a.at.checks l.starts l.ends l.hashes l.left.count l.out l.invariant.2 (omega (arith, c.loop-n-test.true, l.invariant.2.size)) c.step_in-step.result _ _ _ c.step_in-step.ensures.0 _ c.in-Some.is (code_other _ c.numbers-x.result c.numbers-x.ensures c.if-x-eq0.false)),
+      goes_sieve _ _ _ _ _ _ c.step_in-step.ensures.1 _ c.in-Some.is,
     )
 
 pub returns : goal.returns
 returns c =
     let a = c.args in
-    let l = c.loop-out in
-    goes_full a.tag.now (stands_at a.at a.starts.now a.ends.now a.hashes.now) a.out.now l.n (lent_state l.stand a.at.html a.at.checks l.starts l.ends l.hashes l.recorded) l.out l.invariant.1 (omega (arith, l.invariant.0))
+    let l = c.loop-n in
+    ap (λ (x : Result BatchRead WrongTables). batched x l.starts l.ends l.hashes l.out) (left_is l.left l.n OutFull l.invariant.0 l.invariant.1)
+    ∙ goes_full a.tag.now (stands_at a.at a.starts.now a.ends.now a.hashes.now) a.out.now l.n (lent_state l.left.place a.at.html a.at.checks l.starts l.ends l.hashes l.left.count) l.out l.invariant.2 (omega (arith, c.loop-n-test.false, l.invariant.2.size))

@@ -9,9 +9,6 @@ offset_bounds-sieve-at c = omega (arith, at_inside c.args.sieve.now c.args.hash 
 pub bounds-sieve-at : goal.bounds-sieve-at
 bounds-sieve-at c = omega (arith, at_inside c.args.sieve.now c.args.hash c.requires _ c.sieve_word-at.ensures)
 
-pub offset_bounds-sieve-at-2 : goal.offset_bounds-sieve-at-2
-offset_bounds-sieve-at-2 c = omega (arith, at_inside c.args.sieve.now c.args.hash c.requires _ c.sieve_word-at.ensures)
-
 pub bounds-sieve-at-2 : goal.bounds-sieve-at-2
 bounds-sieve-at-2 c = omega (arith, at_inside c.args.sieve.now c.args.hash c.requires _ c.sieve_word-at.ensures)
 

@@ -1,19 +1,17 @@
--- `tag_keys::hash_of` meets its contract: the hash goes on from `hash` over the bytes from i on.
-use mathlib.Core.Path.{refl, sym, ◌∙◌}
-use native.Mathlib.Omega.{arith}
-use Rattle.tag_keys.specs.Hash.{hash_of}
+-- `tag_keys::hash_of` meets its contract: the hash goes on from `hash` over the bytes that are left.
+use Rattle.std.proofs.Common.{refl, sym, ◌∙◌}
+use Rattle.scan.specs.Bytes.{part}
+use Rattle.tag_keys.specs.Hash.{times_prime, hash_of}
 use Rattle.tag_keys.proofs.Hash.{hash_more, hash_none}
 use Rattle.tag_keys.proofs.hash_of.Goals as goal
 
-pub loop-i-init : goal.loop-i-init
-unfolding hash_of
-loop-i-init c = (omega arith, refl)
+pub loop-b-init : goal.loop-b-init
+unfolding hash_of part
+loop-b-init c = refl
 
-pub loop-i-preserved : goal.loop-i-preserved
-loop-i-preserved c = (
-  omega arith,
-  hash_more _ _ _ _ _ _ (omega arith) (omega arith) c.wide.ensures c.times_prime-hash.ensures ∙ c.loop-i.invariant.1,
-)
+pub loop-b-preserved : goal.loop-b-preserved
+unfolding times_prime
+loop-b-preserved c = hash_more _ _ _ _ c.loop-b-test.true c.from.ensures ∙ c.loop-b.invariant
 
 pub returns : goal.returns
-returns c = sym (hash_none _ _ _ _ (omega arith)) ∙ c.loop-i.invariant.1
+returns c = sym (hash_none _ _ _ c.loop-b-test.false) ∙ c.loop-b.invariant

@@ -1,12 +1,8 @@
--- `tag_keys::hash_of` meets its contract: the hash goes on from `hash` over the bytes from i on.
-use Prim.Native.Nat.{◌-◌, ◌≤◌}
-use mathlib.Core.Path.{◌≡◌}
+-- `tag_keys::hash_of` meets its contract: the hash goes on from `hash` over the bytes that are left.
+use Rattle.std.proofs.Common.{◌≡◌, drop}
 use Rattle.scan.specs.Bytes.{part}
 use Rattle.tag_keys.specs.Hash.{hash_from, hash_of}
 use Rattle.tag_keys.proofs.hash_of.Given as goal
 
-abbrev pub invariant-loop-i : goal.invariant-loop-i
-invariant-loop-i l = (l.i ≤ l.to) × (hash_from l.hash (part l.tag l.i l.to) ≡ hash_of (part l.tag l.from l.to))
-
-abbrev pub decreases-loop-i : goal.decreases-loop-i
-decreases-loop-i l = l.to - l.i
+abbrev pub invariant-loop-b : goal.invariant-loop-b
+invariant-loop-b l = hash_from l.hash (drop l.b-index l.b-items) ≡ hash_of (part l.tag l.from l.to)

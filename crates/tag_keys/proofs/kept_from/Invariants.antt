@@ -1,4 +1,4 @@
--- `tag_keys::kept_from` meets its contract: in both loops the answer from `k` is the answer from i.
+-- `tag_keys::kept_from` meets its contract: in both loops the answer from `k` is the answer from where the loop stands.
 use Prim.Native.Nat.{◌-◌, ◌≤◌}
 use mathlib.Core.Path.{◌≡◌}
 use Rattle.scan.specs.First.{first_to}
@@ -11,8 +11,5 @@ invariant-skip l = (l.i ≤ l.count) × (first_to (hash_is l.hashes l.hash) l.k 
 abbrev pub decreases-skip : goal.decreases-skip
 decreases-skip l = l.count - l.i
 
-abbrev pub invariant-loop-i : goal.invariant-loop-i
-invariant-loop-i l = (l.i ≤ l.count) × (first_to (hash_is l.hashes l.hash) l.k l.count ≡ first_to (hash_is l.hashes l.hash) l.i l.count)
-
-abbrev pub decreases-loop-i : goal.decreases-loop-i
-decreases-loop-i l = l.count - l.i
+abbrev pub invariant-loop-j : goal.invariant-loop-j
+invariant-loop-j l = first_to (hash_is l.hashes l.hash) l.k l.count ≡ first_to (hash_is l.hashes l.hash) l.j l.count

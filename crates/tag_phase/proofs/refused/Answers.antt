@@ -1,22 +1,18 @@
 -- `tag_phase::refused` meets its contract: bounds that are no key's are not asked; else the verdict decides.
-use Rattle.tag_phase.specs.Phase.{is_refused}
-use Rattle.tag_phase.proofs.Paths.{refused_empty, refused_outside, refused_asked}
+use Rattle.std.proofs.Common.{◌<◌, ◌∙◌, length, arith}
+use borrow.Author.Tests.{lt-leb, le-ltb}
+use Rattle.tag_phase.proofs.Paths.{refused_empty, refused_outside, refused_asked, refused_err}
+use Rattle.tag_phase.proofs.refused.Goals.{then-key, else-key}
 use Rattle.tag_phase.proofs.refused.Goals as goal
 
-pub returns-then-key : goal.returns-then-key
-returns-then-key c = refused_empty _ _ _ _ c.if-key.true
-
 pub returns-then-key-tag : goal.returns-then-key-tag
-returns-then-key-tag c = refused_outside _ _ _ _ c.if-key.false c.if-key-tag.true
+returns-then-key-tag c = c.is_err.ensures.value ∙ refused_err _ ∙ refused_asked _ _ _ _ (omega (arith, c.if-key-tag.true)) (omega (arith, c.if-key-tag.true)) _ c.check_in.ensures
 
-pub returns-in-Fresh : goal.returns-in-Fresh
-unfolding is_refused
-returns-in-Fresh c = refused_asked _ _ _ _ c.if-key.false c.if-key-tag.false _ c.in-Fresh.ensures
-
-pub returns-in-Same : goal.returns-in-Same
-unfolding is_refused
-returns-in-Same c = refused_asked _ _ _ _ c.if-key.false c.if-key-tag.false _ c.in-Same.ensures
-
-pub returns-in-Full : goal.returns-in-Full
-unfolding is_refused
-returns-in-Full c = refused_asked _ _ _ _ c.if-key.false c.if-key-tag.false _ c.in-Full.ensures
+pub returns-else-key-tag : goal.returns-else-key-tag
+returns-else-key-tag c =
+    elim c.if-key.branch [
+      | then-key w ↦
+          let past : length c.args.tag.now < c.args.key.end = omega (arith, c.if-key-tag.either) in
+          w.t-9-is ∙ lt-leb _ _ past ∙ refused_outside _ _ _ _ w.if-key.true past
+      | else-key w ↦ w.t-9-is ∙ le-ltb _ _ w.if-key.false ∙ refused_empty _ _ _ _ w.if-key.false
+    ]

@@ -29,12 +29,12 @@ unfolding state_good
 step_in-requires c =
     record { keys_in = sized_inside c.args.tag.now _ (sized c.args.at c.args.starts.now c.args.ends.now c.args.hashes.now c.requires) (sym c.good_in.ensures ∙ c.if-not-good_in.false); sieve_of = record { all = λ _. c.sieve_kept.ensures } }
 
-pub returns-in-Made : goal.returns-in-Made
+pub returns-in-Some : goal.returns-in-Some
 unfolding state_good leaves
-returns-in-Made c =
-    sized_next c.args.tag.now _ (sized c.args.at c.args.starts.now c.args.ends.now c.args.hashes.now c.requires) (sym c.good_in.ensures ∙ c.if-not-good_in.false) _ _ _ _ c.in-Made.ensures.0 _ refl
+returns-in-Some c =
+    sized_next c.args.tag.now _ (sized c.args.at c.args.starts.now c.args.ends.now c.args.hashes.now c.requires) (sym c.good_in.ensures ∙ c.if-not-good_in.false) _ _ _ _ c.in-Some.ensures.0 _ refl
 
-pub returns-in-LendMore : goal.returns-in-LendMore
+pub returns-in-None : goal.returns-in-None
 unfolding state_good
-returns-in-LendMore c =
-    absurd (sized_never c.args.tag.now _ (sized c.args.at c.args.starts.now c.args.ends.now c.args.hashes.now c.requires) (sym c.good_in.ensures ∙ c.if-not-good_in.false) _ _ _ _ c.in-LendMore.ensures.0 refl)
+returns-in-None c =
+    absurd (sized_never c.args.tag.now _ (sized c.args.at c.args.starts.now c.args.ends.now c.args.hashes.now c.requires) (sym c.good_in.ensures ∙ c.if-not-good_in.false) _ _ _ _ c.in-None.ensures.0 refl)

@@ -12,27 +12,27 @@ returns-in_default c = (took_same _ _ c.requires.keys_in _ _ (step_ended _ _ _ _
 
 pub key_only-requires : goal.key_only-requires
 key_only-requires c =
-    let from = sym c.in-From.ensures in
-    let k = bare_by_lem _ _ (starts_in _ _ _ from) _ _ (sym c.in-Bare.ensures) in
+    let from = sym c.in-Some.ensures in
+    let k = bare_by_lem _ _ (starts_in _ _ _ from) _ _ (sym (rw c.in-Some-Bare.field-0-is at c.in-Some-Bare.ensures)) in
     record { keys_in = c.requires.keys_in; start_lt_end = (omega arith, omega arith); sieve_of = c.requires.sieve_of }
 
 pub key_valued-requires : goal.key_valued-requires
 key_valued-requires c =
-    let from = sym c.in-From.ensures in
-    let k = valued_by_lem _ _ (starts_in _ _ _ from) _ _ (sym c.in-Valued.ensures) in
+    let from = sym c.in-Some.ensures in
+    let k = valued_by_lem _ _ (starts_in _ _ _ from) _ _ (sym (rw c.in-Some-Valued.field-0-is at c.in-Some-Valued.ensures)) in
     record { keys_in = c.requires.keys_in; start_lt_end = (omega arith, omega arith); eq_in_bounds = at_in _ _ _ k.1; sieve_of = c.requires.sieve_of }
 
-pub returns-in-NoKey : goal.returns-in-NoKey
-returns-in-NoKey c =
-    let from = sym c.in-From.ensures in
-    (took_same _ _ c.requires.keys_in _ _ (step_none _ _ _ _ _ _ from (sym c.in-NoKey.ensures)) refl, sieve_stays _ _ _ _ c.requires.sieve_of)
+pub returns-in-None : goal.returns-in-None
+returns-in-None c =
+    let from = sym c.in-Some.ensures in
+    (took_same _ _ c.requires.keys_in _ _ (step_none _ _ _ _ _ _ from (sym c.in-None.ensures)) refl, sieve_stays _ _ _ _ c.requires.sieve_of)
 
-pub returns-in-Bare : goal.returns-in-Bare
-returns-in-Bare c =
-    let from = sym c.in-From.ensures in
-    (c.key_only.ensures.0 ∙ ap (taken_on _) (step_bare _ _ _ _ _ _ from _ _ (sym c.in-Bare.ensures)), c.key_only.ensures.1)
+pub returns-in-Some-Bare : goal.returns-in-Some-Bare
+returns-in-Some-Bare c =
+    let from = sym c.in-Some.ensures in
+    (c.key_only.ensures.0 ∙ ap (taken_on _) (step_bare _ _ _ _ _ _ from _ _ (sym (rw c.in-Some-Bare.field-0-is at c.in-Some-Bare.ensures))), c.key_only.ensures.1)
 
-pub returns-in-Valued : goal.returns-in-Valued
-returns-in-Valued c =
-    let from = sym c.in-From.ensures in
-    (c.key_valued.ensures.0 ∙ ap (taken_on _) (step_valued _ _ _ _ _ _ from _ _ (sym c.in-Valued.ensures)), c.key_valued.ensures.1)
+pub returns-in-Some-Valued : goal.returns-in-Some-Valued
+returns-in-Some-Valued c =
+    let from = sym c.in-Some.ensures in
+    (c.key_valued.ensures.0 ∙ ap (taken_on _) (step_valued _ _ _ _ _ _ from _ _ (sym (rw c.in-Some-Valued.field-0-is at c.in-Some-Valued.ensures))), c.key_valued.ensures.1)

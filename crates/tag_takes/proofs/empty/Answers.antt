@@ -1,15 +1,10 @@
 -- `tag_takes::empty` meets its contract.
-use Prim.Native.Nat.{ℕ}
-use mathlib.Core.Path.{ap, ◌∙◌}
+use mathlib.Core.Path.{refl, ap, ◌∙◌}
 use native.Mathlib.Omega.{arith}
 use lib.ListN.{length}
-use lib.Dec.{ltb}
-use Rattle.scan.specs.First.{pick}
 use Rattle.scan.specs.Lists.{over}
 use Rattle.scan.proofs.Lists.{over_length}
-use Rattle.tag_batch.specs.declared.Why.TheVariants.{OutFull, AtEnd}
 use Rattle.tag_batch.specs.Batch.{listed}
-use Rattle.tag_takes.specs.declared.Took.TheVariants.{Read}
 use Rattle.tag_takes.specs.Takes.{emptied_at}
 use Rattle.tag_takes.proofs.empty.Goals as goal
 
@@ -18,4 +13,4 @@ unfolding emptied_at
 returns c =
     let a = c.args in
     let l = ap length c.put.ensures ∙ over_length a.out.now 0 (listed c.numbers.result) (omega (arith, c.requires)) in
-    (ap (Read 1 (emptied_at a.at)) (c.after_seven.ensures ∙ ap (λ (n : ℕ). pick (ltb n 10) OutFull AtEnd) l), c.clear_keys.ensures.0, c.clear_keys.ensures.1, c.clear_keys.ensures.2, c.put.ensures ∙ ap (over a.out.now 0) c.numbers.ensures)
+    (rw (c.after_seven.ensures, l) refl, c.clear_keys.ensures.0, c.clear_keys.ensures.1, c.clear_keys.ensures.2, c.put.ensures ∙ ap (over a.out.now 0) c.numbers.ensures)

@@ -3,10 +3,10 @@ use Rattle.tag_step.specs.Next.{keys_of}
 use Rattle.tag_takes.specs.Takes.{looks_past}
 use Rattle.tag_takes.proofs.not_ready.Goals as goal
 
-pub returns-then-finished : goal.returns-then-finished
-unfolding looks_past
-returns-then-finished c = rw c.if-finished.true
-
-pub returns : goal.returns
+pub returns-then-not-finished : goal.returns-then-not-finished
 unfolding looks_past keys_of
-returns c = rw (c.if-finished.false, c.look_in.ensures)
+returns-then-not-finished c = rw (c.if-not-finished.true, c.look_in.ensures)
+
+pub returns-else-not-finished : goal.returns-else-not-finished
+unfolding looks_past
+returns-else-not-finished c = rw c.if-not-finished.false

@@ -2,8 +2,8 @@
 use mathlib.Core.Path.{◌∙◌}
 use Rattle.tag_takes.proofs.phase_waits.Goals as goal
 
-pub returns-then-finished : goal.returns-then-finished
-returns-then-finished c = rw c.if-finished.true
+pub returns-then-not-finished : goal.returns-then-not-finished
+returns-then-not-finished c = c.waits.ensures ∙ rw c.if-not-finished.true
 
-pub returns : goal.returns
-returns c = c.waits.ensures ∙ rw c.if-finished.false
+pub returns-else-not-finished : goal.returns-else-not-finished
+returns-else-not-finished c = rw c.if-not-finished.false

@@ -1,9 +1,0 @@
--- `scope_listing::kind` meets its contract.
-use borrow.Author.Tests.{eq-eqb, ne_eqb}
-use Rattle.scope_listing.proofs.kind.Goals as goal
-
-pub returns-then-from-to : goal.returns-then-from-to
-returns-then-from-to c = rw (eq-eqb _ _ c.if-from-to.true)
-
-pub returns : goal.returns
-returns c = rw (ne_eqb _ _ c.if-from-to.false)
