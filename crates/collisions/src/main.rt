@@ -57,7 +57,11 @@ impl Memory {
     fn show_kept(&self, rt: &impl Print, count: usize) -> io::Result<()> {
         let bounds = self.starts.iter().zip(&self.ends);
         for ((start, end), hash) in bounds.zip(&self.hashes).take(count) {
-            println!(rt; "K {start} {end} {hash}")?;
+            print!(rt; "K")?;
+            print!(rt; " {start}")?;
+            print!(rt; " {end}")?;
+            print!(rt; " {hash}")?;
+            println!(rt)?;
         }
         Ok(())
     }

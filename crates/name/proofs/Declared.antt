@@ -235,10 +235,10 @@ module _ (name : List ℕ) where
   pub nothing_after : length name ≡ 5 → is_xmlns (take 5 name) ≡ true → Some Default ≡ declares_of name
   nothing_after l h = sym (declares_default name (sym (ap is_xmlns (take_all 5 name (omega arith))) ∙ h))
 
-  colon_after : 5 < length name → is_xmlns (take 5 name) ≡ true → get_or name 5 0 ≡ 58 → Some Named ≡ declares_of name
+  pub colon_after : 5 < length name → is_xmlns (take 5 name) ≡ true → get_or name 5 0 ≡ 58 → Some Named ≡ declares_of name
   colon_after l h c = sym (declares_named name (is_named_lem name (take-suc name 5 0 l ∙ rw (xmlns_eq (take 5 name) h, c) opening_is)))
 
-  other_after : 5 < length name → (get_or name 5 0 ≡ 58 → ⊥) → None ≡ declares_of name
+  pub other_after : 5 < length name → (get_or name 5 0 ≡ 58 → ⊥) → None ≡ declares_of name
   other_after l n =
       sym
       (declares_nothing name (not_xmlns name (λ e. omega (arith, ap length e, xmlns_length)))

@@ -156,7 +156,9 @@ impl Reading {
         self.at.finished = true;
         self.show_ready(rt)?;
         let shown = self.shown;
-        println!(rt; "answers {shown}").map_err(Failure::Write)
+        write(rt, b"answers ")?;
+        print!(rt; "{shown}").map_err(Failure::Write)?;
+        write(rt, b"\n")
     }
 
     // Reads to the end of standard input, as many bytes at a time as are there and as `buffer` holds. A piece has a byte at

@@ -51,7 +51,8 @@ impl Memory {
 
 fn row(rt: &impl Print, tag: &[u8], html: bool, open: usize) -> io::Result<()> {
     let mode = if html { "h" } else { "x" };
-    print!(rt; "{mode} {open} |")?;
+    print!(rt; "{mode} ")?;
+    print!(rt; "{open} |")?;
     rt.write_all(tag)?;
     println!(rt; "|")?;
     let mut memory = Memory::new();

@@ -181,7 +181,7 @@ by_value f x s z a text records head e =
 -- On lent memory.
 module _ (room : Room) (d : Option PrefixDeclaration) (p v : List ℕ) (at : Places) (text records : List ℕ) (head : Head) where
   -- what leaves the resolver leaves the memory
-  declare_keeps : (a : NamespaceResult) → fits_of (length text) (length records) head.used head.count ≡ true → ((x : NamespaceResolver) → declare_of room d p v at x ≡ changed a x) → given a text records head ≡ lent_of (declare_of room d p v at) text records head
+  pub declare_keeps : (a : NamespaceResult) → fits_of (length text) (length records) head.used head.count ≡ true → ((x : NamespaceResolver) → declare_of room d p v at x ≡ changed a x) → given a text records head ≡ lent_of (declare_of room d p v at) text records head
   declare_keeps a fit e = unchanged text records head fit (declare_of room d p v at) a (e _)
 
   pub declare_refuses : (error : NamespaceError) → fits_of (length text) (length records) head.used head.count ≡ true → judge_of d p v at ≡ Err error → given (Err error) text records head ≡ lent_of (declare_of room d p v at) text records head

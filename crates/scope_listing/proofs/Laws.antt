@@ -83,7 +83,7 @@ module _ (records : List ℕ) (count asked : ℕ) (r : Rising records count) whe
       let a : level i ≤ level k = rw s at (rise_to i (k - i) (omega arith)) in
       rw (ne_eqb (level k) asked (λ e. omega arith))
 
-  level_past : (i : ℕ) → i < count → asked < (record_at records i).level → first_to (λ k. at_level asked (record_at records k)) i count ≡ count
+  pub level_past : (i : ℕ) → i < count → asked < (record_at records i).level → first_to (λ k. at_level asked (record_at records k)) i count ≡ count
   unfolding level
   level_past i h a =
       to_skip (λ k. at_level asked (record_at records k)) i count count (omega arith) (omega arith) (λ k lo hi. not_at i k a lo hi)

@@ -76,7 +76,7 @@ module _ (text records : List ℕ) (head : Head) (place : ℕ) where
       listed_at (record_at x.records) x.head.count
       (first_to (in_effect x.text (record_at x.records) x.head.count) (past_built_in place) x.head.count) place
 
-  listing_bad : form_of text records head ≡ Err Is.BadResolver → listing (Err Is.BadResolver) place ≡ lent (listing (Err Is.WrongLength) place) (bindings_of place) text records head
+  pub listing_bad : form_of text records head ≡ Err Is.BadResolver → listing (Err Is.BadResolver) place ≡ lent (listing (Err Is.WrongLength) place) (bindings_of place) text records head
   unfolding bindings_of shown_in_lem
   listing_bad e = sym (asks_bad text records head (listing (Err Is.WrongLength) place) shown_in_lem (λ x. listing (Err Is.BadResolver) place) e)
 
@@ -100,7 +100,7 @@ module _ (text records : List ℕ) (head : Head) (place : ℕ) where
         listed_at (record_at x.records) x.head.count
         (first_to (λ i. at_level asked (record_at x.records i)) place x.head.count) place
 
-    level_bad : form_of text records head ≡ Err Is.BadResolver → listing (Err Is.BadResolver) place ≡ lent (listing (Err Is.WrongLength) place) (bindings_at_of asked place) text records head
+    pub level_bad : form_of text records head ≡ Err Is.BadResolver → listing (Err Is.BadResolver) place ≡ lent (listing (Err Is.WrongLength) place) (bindings_at_of asked place) text records head
     unfolding bindings_at_of level_in
     level_bad e = sym (asks_bad text records head (listing (Err Is.WrongLength) place) level_in (λ x. listing (Err Is.BadResolver) place) e)
 

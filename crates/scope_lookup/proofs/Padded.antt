@@ -59,7 +59,7 @@ module _ (text records : List ℕ) (head : Head) (p : List ℕ) (explicit wanted
   among_in : NamespaceResolver → ResolveResult
   among_in x = among_of x.text (record_at x.records) x.head.count p explicit wanted
 
-  lookup_bad : form_of text records head ≡ Err Is.BadResolver → Err Is.BadResolver ≡ lent (Err Is.WrongLength) (resolve_prefix_of p explicit wanted) text records head
+  pub lookup_bad : form_of text records head ≡ Err Is.BadResolver → Err Is.BadResolver ≡ lent (Err Is.WrongLength) (resolve_prefix_of p explicit wanted) text records head
   unfolding resolve_prefix_of among_in
   lookup_bad e = sym (asks_bad text records head (Err Is.WrongLength) (λ x. Ok (among_in x)) (λ x. Err Is.BadResolver) e)
 

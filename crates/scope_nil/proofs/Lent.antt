@@ -181,13 +181,13 @@ module _ (s : List ℕ) (st : IterState) (text records : List ℕ) (head : Head)
     unfolding has_nil_in
     fitted = rw f
 
-    in_wrong : form_of text records head ≡ Err Is.WrongLength → said (Err Refused.WrongLength) st ≡ has_nil_in s st text records head
+    pub in_wrong : form_of text records head ≡ Err Is.WrongLength → said (Err Refused.WrongLength) st ≡ has_nil_in s st text records head
     in_wrong e = sym (asks_wrong text records head (said (Err Refused.WrongLength) st) (nil_on_keys s st) e) ∙ fitted
 
     inner : NamespaceResolver → HasNil
     inner x = pick (state_good s st) (whole_search x s st) (said (Err Refused.BadState) (stepped_of s st))
 
-    in_bad : form_of text records head ≡ Err Is.BadResolver → said (Err Refused.BadResolver) st ≡ has_nil_in s st text records head
+    pub in_bad : form_of text records head ≡ Err Is.BadResolver → said (Err Refused.BadResolver) st ≡ has_nil_in s st text records head
     unfolding nil_on_keys inner
     in_bad e = sym (asks_bad text records head (said (Err Refused.WrongLength) st) inner (λ x. said (Err Refused.BadResolver) st) e) ∙ fitted
 

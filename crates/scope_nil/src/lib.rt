@@ -161,7 +161,9 @@ fn write_over<T: Copy>(to: &mut [T], from: &[T])
 }
 
 // The same search on tables that may be shorter. It reads into tables of its own, which have room for every key, so that
-// nothing has changed where the lent ones do not hold what it leaves.
+// nothing has changed where the lent ones do not hold what it leaves. These take 20 KB of stack, which a call on tables of
+// full size, or one that is refused, does without: so it stays a function of its own.
+#[inline(never)]
 fn search_short<'k, 't>(
     tag: &[u8],
     starts: &'k mut [usize],

@@ -503,7 +503,7 @@ pub fn fresh_in(text: &mut [u8], records: &mut [usize], head: Head) -> Outcome
             head,
         };
     }
-    text.fill(0);
+    clear_bytes(text, 0, bytes);
     records.fill(0);
     write_built_in(text, records);
     Outcome {

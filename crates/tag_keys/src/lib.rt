@@ -159,12 +159,13 @@ fn earlier_key<'a>(
     ensures { result ≡ earlier_of tag.now starts.now ends.now count from to }
 {
     let len = to - from;
+    let mut found = None;
     let mut k = 0;
     // No `for`: `k` goes on behind the key that was looked at, and no range gives those places.
     'keys: while k < count {
         let i = kept_from(hashes, count, k, hash);
         if i >= count {
-            return None;
+            break 'keys;
         }
         k = i + 1;
         let start = starts[i];
@@ -177,9 +178,10 @@ fn earlier_key<'a>(
                 continue 'keys;
             }
         }
-        return Some(start);
+        found = Some(start);
+        break 'keys;
     }
-    None
+    found
 }
 
 // The same for a key with its hash, by the sieve first.

@@ -1,12 +1,17 @@
--- `scan::put` meets its contract: what `copy_from_slice` leaves is the text with s written over it.
-use Rattle.std.proofs.Common.{◌≡◌, length, refl, arith, ◌∙◌, ◌-◌, ◌+◌}
-use Rattle.std.proofs.lemmas.Slice.{put_mid-paste}
-use Rattle.scan.proofs.Lists.{paste_all}
+-- `scan::put` meets its contract: after i turns the text is what it was with the first i bytes of s pasted in.
+use mathlib.Core.Path.{◌∙◌}
+use native.Mathlib.Omega.{arith}
+use Rattle.scan.proofs.Lists.{paste_all, paste_more}
 use Rattle.scan.proofs.put.Goals as goal
+
+pub loop-i-preserved : goal.loop-i-preserved
+loop-i-preserved c =
+    let l = c.loop-i in
+    let a = c.args in
+    rw l.invariant (paste_more a.text.now a.at a.s.now l.i (omega arith) (omega arith))
 
 pub returns : goal.returns
 returns c =
+    let l = c.loop-i in
     let a = c.args in
-    let n : length a.s.now ≡ a.at + length a.s.now - a.at = omega arith in
-    put_mid-paste _ _ _ _ a.s.now (length a.s.now) c.copy_from_slice.ensures.after n refl
-    ∙ paste_all a.text.now a.at a.s.now (length a.s.now) refl
+    l.invariant ∙ paste_all a.text.now a.at a.s.now l.i (omega arith)

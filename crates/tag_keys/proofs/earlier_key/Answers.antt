@@ -26,10 +26,10 @@ next tag starts ends hashes count from to hash k i keys own le so_far e =
     )
 
 pub keys-init : goal.keys-init
-keys-init c = (omega arith, refl)
+keys-init c = (refl, omega arith, refl)
 
 pub kept_from-i-requires : goal.kept_from-i-requires
-kept_from-i-requires c = (c.keys.invariant.0, c.requires.keys_in.placed.2)
+kept_from-i-requires c = (c.keys.invariant.1, c.requires.keys_in.placed.2)
 
 pub bounds-starts-i : goal.bounds-starts-i
 bounds-starts-i c = omega (arith, c.requires.keys_in.placed)
@@ -41,7 +41,7 @@ pub overflow_sub-end : goal.overflow_sub-end
 overflow_sub-end c = omega (arith, c.requires.keys_in.inside c.kept_from-i.result (omega arith))
 
 pub keys-smaller-then-end-start : goal.keys-smaller-then-end-start
-keys-smaller-then-end-start c = omega (arith, (next _ _ _ _ _ _ _ _ _ _ c.requires.keys_in c.requires.hash_value c.keys.invariant.0 c.keys.invariant.1 c.kept_from-i.ensures).0)
+keys-smaller-then-end-start c = omega (arith, (next _ _ _ _ _ _ _ _ _ _ c.requires.keys_in c.requires.hash_value c.keys.invariant.1 c.keys.invariant.2 c.kept_from-i.ensures).0)
 
 pub keys-preserved-then-end-start : goal.keys-preserved-then-end-start
 unfolding name_at same_key
@@ -49,7 +49,7 @@ keys-preserved-then-end-start c =
     let n = c.kept_from-i.result in
     let h = c.requires.keys_in.inside n (omega (arith, c.if-i-count.false)) in
     let unlike = unlike_length c.args.tag.now _ _ _ _ (le_of_lt h.0) h.1 (le_of_lt c.requires.from_lt_to.0) c.requires.from_lt_to.1 c.if-end-start.true in
-    (omega (arith, c.if-i-count.false), (next _ _ _ _ _ _ _ _ _ _ c.requires.keys_in c.requires.hash_value c.keys.invariant.0 c.keys.invariant.1 c.kept_from-i.ensures).1 ∙ to_miss _ n _ (omega (arith, c.if-i-count.false)) (stops_by _ _ _ _ _ _ n false unlike))
+    (c.keys.invariant.0, omega (arith, c.if-i-count.false), (next _ _ _ _ _ _ _ _ _ _ c.requires.keys_in c.requires.hash_value c.keys.invariant.1 c.keys.invariant.2 c.kept_from-i.ensures).1 ∙ to_miss _ n _ (omega (arith, c.if-i-count.false)) (stops_by _ _ _ _ _ _ n false unlike))
 
 pub loop-j-init : goal.loop-j-init
 loop-j-init c = λ i lo hi. absurd (omega arith)
@@ -61,7 +61,7 @@ pub bounds-tag-start : goal.bounds-tag-start
 bounds-tag-start c = omega (arith, c.requires.keys_in.inside c.kept_from-i.result (omega arith))
 
 pub keys-smaller : goal.keys-smaller
-keys-smaller c = omega (arith, (next _ _ _ _ _ _ _ _ _ _ c.requires.keys_in c.requires.hash_value c.keys.invariant.0 c.keys.invariant.1 c.kept_from-i.ensures).0)
+keys-smaller c = omega (arith, (next _ _ _ _ _ _ _ _ _ _ c.requires.keys_in c.requires.hash_value c.keys.invariant.1 c.keys.invariant.2 c.kept_from-i.ensures).0)
 
 pub keys-preserved : goal.keys-preserved
 unfolding name_at same_key
@@ -69,7 +69,7 @@ keys-preserved c =
     let n = c.kept_from-i.result in
     let h = c.requires.keys_in.inside n (omega (arith, c.if-i-count.false)) in
     let unlike = unlike_byte c.args.tag.now _ _ _ _ (le_of_lt h.0) h.1 (le_of_lt c.requires.from_lt_to.0) c.requires.from_lt_to.1 c.if-end-start.false (c.loop-j.j - 1) (omega arith) c.if-tag-start.true in
-    (omega (arith, c.if-i-count.false), (next _ _ _ _ _ _ _ _ _ _ c.requires.keys_in c.requires.hash_value c.keys.invariant.0 c.keys.invariant.1 c.kept_from-i.ensures).1 ∙ to_miss _ n _ (omega (arith, c.if-i-count.false)) (stops_by _ _ _ _ _ _ n false unlike))
+    (c.keys.invariant.0, omega (arith, c.if-i-count.false), (next _ _ _ _ _ _ _ _ _ _ c.requires.keys_in c.requires.hash_value c.keys.invariant.1 c.keys.invariant.2 c.kept_from-i.ensures).1 ∙ to_miss _ n _ (omega (arith, c.if-i-count.false)) (stops_by _ _ _ _ _ _ n false unlike))
 
 pub loop-j-preserved : goal.loop-j-preserved
 loop-j-preserved c =
@@ -80,16 +80,16 @@ loop-j-preserved c =
 pub returns-then-i-count : goal.returns-then-i-count
 returns-then-i-count c =
     let n = c.kept_from-i.result in
-    stops_past _ _ _ _ _ _ _ n ((next _ _ _ _ _ _ _ _ _ _ c.requires.keys_in c.requires.hash_value c.keys.invariant.0 c.keys.invariant.1 c.kept_from-i.ensures).1 ∙ to_past _ n _ c.if-i-count.true) c.if-i-count.true
+    c.keys.invariant.0 ∙ stops_past _ _ _ _ _ _ _ n ((next _ _ _ _ _ _ _ _ _ _ c.requires.keys_in c.requires.hash_value c.keys.invariant.1 c.keys.invariant.2 c.kept_from-i.ensures).1 ∙ to_past _ n _ c.if-i-count.true) c.if-i-count.true
 
-pub returns-in-keys : goal.returns-in-keys
+pub returns-after-loop-j : goal.returns-after-loop-j
 unfolding name_at same_key
-returns-in-keys c =
+returns-after-loop-j c =
     let n = c.kept_from-i.result in
     let h = c.requires.keys_in.inside n (omega arith) in
     let same = alike c.args.tag.now _ _ _ _ (le_of_lt h.0) h.1 (le_of_lt c.requires.from_lt_to.0) c.requires.from_lt_to.1 c.if-end-start.false (λ m lo hi. c.loop-j.invariant m (omega arith) hi) in
-    stops_at _ _ _ _ _ _ _ n ((next _ _ _ _ _ _ _ _ _ _ c.requires.keys_in c.requires.hash_value c.keys.invariant.0 c.keys.invariant.1 c.kept_from-i.ensures).1 ∙ to_hit _ n _ (omega arith) (stops_by _ _ _ _ _ _ n true same)) (omega arith)
+    stops_at _ _ _ _ _ _ _ n ((next _ _ _ _ _ _ _ _ _ _ c.requires.keys_in c.requires.hash_value c.keys.invariant.1 c.keys.invariant.2 c.kept_from-i.ensures).1 ∙ to_hit _ n _ (omega arith) (stops_by _ _ _ _ _ _ n true same)) (omega arith)
 
-pub returns : goal.returns
-returns c =
-    stops_past _ _ _ _ _ _ _ _ (c.keys.invariant.1 ∙ to_past _ _ _ c.keys-test.false) c.keys-test.false
+pub returns-after-keys : goal.returns-after-keys
+returns-after-keys c =
+    c.keys.invariant.0 ∙ stops_past _ _ _ _ _ _ _ _ (c.keys.invariant.2 ∙ to_past _ _ _ c.keys-test.false) c.keys-test.false
