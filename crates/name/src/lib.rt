@@ -225,7 +225,9 @@ pub fn check_named(prefix: &[u8], value: &[u8]) -> Result<bool, ReservedBinding>
     Ok(true)
 }
 
-// Whether Namespaces 1.0 allows a named prefix to be declared with a value. The crate has no such answer.
+// Whether Namespaces 1.0 allows a named prefix to be declared with a value. The crate has no such answer. It stays a function of its own:
+// compiled into `verdict_of` it has every call save registers, those of names that declare nothing too.
+#[inline(never)]
 pub fn verdict_named(prefix: &[u8], value: &[u8]) -> bool
     ensures { result ≡ verdict_named prefix.now value.now }
 {

@@ -29,7 +29,7 @@ pub write_built_in-requires : goal.write_built_in-requires
 write_built_in-requires c =
     let a = c.args in
     let l = fresh_lent a.text.now a.records.now a.head (sym c.within_capacity.ensures ∙ c.if-not-within_capacity.false) (sym c.fits.ensures ∙ c.if-not-fits.false) in
-    (omega (arith, l.0, ap length c.clear_bytes.ensures ∙ cut_length a.text.now 0 (omega arith)), omega (arith, l.1, ap length (c.fill.ensures.after (λ y e. e) ∙ sym (cut_all a.records.now)) ∙ cut_length a.records.now 0 (omega arith)))
+    (omega (arith, l.0, ap length c.clear_bytes.ensures ∙ cut_length a.text.now _ (omega arith)), omega (arith, l.1, ap length (c.fill.ensures.after (λ y e. e) ∙ sym (cut_all a.records.now)) ∙ cut_length a.records.now 0 (omega arith)))
 
 pub returns : goal.returns
 returns c =
