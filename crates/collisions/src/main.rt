@@ -53,7 +53,7 @@ impl Memory {
         )
     }
 
-    // The first `count` keys of the tables.
+    // The first `count` keys of the tables. Each part of a line is a write of its own: those before one that is refused whole are out.
     fn show_kept(&self, rt: &impl Print, count: usize) -> io::Result<()> {
         let bounds = self.starts.iter().zip(&self.ends);
         for ((start, end), hash) in bounds.zip(&self.hashes).take(count) {

@@ -151,7 +151,8 @@ impl Reading {
         }
     }
 
-    // Shows what is left once all came in, and how many answers there were.
+    // Shows what is left once all came in, and how many answers there were: in three writes, of which those before one that is refused
+    // whole are out.
     fn show_rest(&mut self, rt: &(impl Print + Eprint)) -> Result<(), Failure> {
         self.at.finished = true;
         self.show_ready(rt)?;

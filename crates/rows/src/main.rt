@@ -49,6 +49,7 @@ impl Memory {
     }
 }
 
+// Each part is a write of its own: those before one that is refused whole are out.
 fn row(rt: &impl Print, tag: &[u8], html: bool, open: usize) -> io::Result<()> {
     let mode = if html { "h" } else { "x" };
     print!(rt; "{mode} ")?;
